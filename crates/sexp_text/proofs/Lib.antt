@@ -1,0 +1,15 @@
+pub mod Truth
+pub mod ByteClasses
+pub mod Commented
+pub mod Reading
+pub mod Clear
+pub mod Unique
+pub mod Sound
+pub mod Apart
+pub mod Digits
+pub mod Equations
+pub mod Induction
+pub mod Written
+pub mod Laid
+pub mod Decimals
+pub mod Reread

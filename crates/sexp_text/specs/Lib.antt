@@ -1,0 +1,13 @@
+pub mod Forms
+pub mod Bytes
+pub mod Places
+pub mod Numbers
+pub mod Spells
+pub mod Text
+pub mod Faults
+pub mod Print
+pub mod Printed
+pub mod Open
+pub mod Finishes
+pub mod Step
+pub mod Clear
