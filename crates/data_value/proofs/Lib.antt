@@ -1,0 +1,5 @@
+pub mod MapLemmas
+pub mod OpLemmas
+pub mod TestLemmas
+pub mod TrialLemmas
+pub mod WordLemmas

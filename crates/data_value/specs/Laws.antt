@@ -1,0 +1,68 @@
+-- What holds of the operators, of maps and of the trials, whatever the arguments.
+use Rattle.std.specs.Prelude.{◌≡◌, ◌≢◌, ℕ, ◌<◌, ◌^◌, IsTrue, ◌↔◌, List, Some, All, map}
+use Rattle.data_value.specs.declared.DataSort.{DataSort}
+use Rattle.data_value.specs.declared.Scalar.{Scalar}
+use Rattle.data_value.specs.declared.Value.{Value}
+use Rattle.data_value.specs.declared.Value.TheVariants.{One}
+use Rattle.data_value.specs.declared.Op.{Op}
+use Rattle.data_value.specs.Sorts.{IsSort, same_sort, op_sort}
+use Rattle.data_value.specs.Maps.{Mapping, IsMapping, SameReads, read, write, put_into}
+use Rattle.data_value.specs.Values.{scalar_sort, value_sort, IsScalar, IsValue, IsValueOf, is_value, same_scalar}
+use Rattle.data_value.specs.Ops.{scalar_value, op_value}
+use Rattle.data_value.specs.Trials.{trial}
+
+-- At values of sorts that an operator takes, its value is a value of the sort that it gives.
+abbrev pub OperatorsKeepSorts : Type 0
+OperatorsKeepSorts = (op : Op) (args : List Value) (s : DataSort) → All IsValue args → op_sort op (map value_sort args) ≡ Some s → IsValueOf s (op_value op args)
+
+-- At scalars of sorts that an operator takes, its value is that of its values at scalars, and a scalar of the sort that it gives.
+abbrev pub ScalarsKeepSorts : Type 0
+ScalarsKeepSorts = (op : Op) (args : List Scalar) (s : DataSort) → All IsScalar args → op_sort op (map scalar_sort args) ≡ Some s → (op_value op (map One args) ≡ One (scalar_value op args)) × IsValueOf s (One (scalar_value op args))
+
+-- The sort that an operator gives sorts is a sort.
+abbrev pub OperatorsGiveSorts : Type 0
+OperatorsGiveSorts = (op : Op) (sorts : List DataSort) (s : DataSort) → All IsSort sorts → op_sort op sorts ≡ Some s → IsSort s
+
+-- The sort of a value is a sort.
+abbrev pub ValuesHaveSorts : Type 0
+ValuesHaveSorts = (v : Value) → IsValue v → IsSort (value_sort v)
+
+-- The test for values tells them.
+abbrev pub TestTellsValues : Type 0
+TestTellsValues = (v : Value) → IsTrue (is_value v) ↔ IsValue v
+
+-- The test for equal sorts tells them.
+abbrev pub TestTellsSorts : Type 0
+TestTellsSorts = (a b : DataSort) → IsTrue (same_sort a b) ↔ (a ≡ b)
+
+-- The test for equal scalars, which is the value of the operator for equality, tells them.
+abbrev pub TestTellsScalars : Type 0
+TestTellsScalars = (a b : Scalar) → IsTrue (same_scalar a b) ↔ (a ≡ b)
+
+-- Every sort has a value.
+abbrev pub EverySortHasValue : Type 0
+EverySortHasValue = (s : DataSort) → IsSort s → (v : Value) × IsValueOf s v
+
+-- Every trial gives variables of these sorts values of these sorts, in their order.
+abbrev pub TrialsFit : Type 0
+TrialsFit = (t : ℕ) (sorts : List DataSort) → All IsSort sorts → All IsValue (trial t sorts) × (map value_sort (trial t sorts) ≡ sorts)
+
+-- Two maps are equal exactly where their widths and all their reads are.
+abbrev pub MapsAreReads : Type 0
+MapsAreReads = (m n : Mapping) → IsMapping m → IsMapping n → (m ≡ n) ↔ SameReads m n
+
+-- Every read of a map is one of its words.
+abbrev pub ReadsAreWords : Type 0
+ReadsAreWords = (m : Mapping) (k : ℕ) → IsMapping m → read m.entries k < 2 ^ m.word_width
+
+-- A put gives a map.
+abbrev pub PutsAreMaps : Type 0
+PutsAreMaps = (m : Mapping) (k v : ℕ) → IsMapping m → k < 2 ^ m.key_width → v < 2 ^ m.word_width → IsMapping (put_into m k v)
+
+-- A put reads back.
+abbrev pub PutsReadBack : Type 0
+PutsReadBack = (es : List (ℕ × ℕ)) (k v : ℕ) → read (write es k v) k ≡ v
+
+-- A put leaves the other keys alone.
+abbrev pub PutsLeaveOthers : Type 0
+PutsLeaveOthers = (es : List (ℕ × ℕ)) (k v j : ℕ) → j ≢ k → read (write es k v) j ≡ read es j

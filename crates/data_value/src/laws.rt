@@ -1,0 +1,40 @@
+//! Laws of values, operators, maps and trials. Each function does nothing; its contract is the law.
+ghost use Rattle.data_value.specs.Laws.{OperatorsKeepSorts, ScalarsKeepSorts, OperatorsGiveSorts, ValuesHaveSorts, TestTellsValues, TestTellsSorts, TestTellsScalars, EverySortHasValue, TrialsFit, MapsAreReads, ReadsAreWords, PutsAreMaps, PutsReadBack, PutsLeaveOthers};
+
+/// The value of an operator at values that it takes is a value, and has the sort that `sort_of` answers for it.
+pub fn operators_keep_sorts()
+    ensures values { OperatorsKeepSorts }
+    ensures scalars { ScalarsKeepSorts }
+{}
+
+/// Operators give sorts in range at sorts in range, and so do values.
+pub fn sorts_stay_in_range()
+    ensures operators { OperatorsGiveSorts }
+    ensures values { ValuesHaveSorts }
+{}
+
+/// The tests of the definitions are true exactly of values, of equal sorts and of equal scalars.
+pub fn tests_tell()
+    ensures values { TestTellsValues }
+    ensures sorts { TestTellsSorts }
+    ensures scalars { TestTellsScalars }
+{}
+
+/// Every sort has a value, and each of the 64 trials gives every variable one of its sort.
+pub fn sorts_have_values()
+    ensures every { EverySortHasValue }
+    ensures trials { TrialsFit }
+{}
+
+/// Two maps are equal exactly where their widths are and the word at every key.
+pub fn maps_are_their_reads()
+    ensures equal { MapsAreReads }
+    ensures words { ReadsAreWords }
+{}
+
+/// A map with a word put at a key is a map that has that word at that key, and at every other key what was there.
+pub fn puts_change_one_key()
+    ensures map { PutsAreMaps }
+    ensures back { PutsReadBack }
+    ensures others { PutsLeaveOthers }
+{}
