@@ -1,0 +1,14 @@
+pub mod Agreeing
+pub mod AnyOf
+pub mod Applied
+pub mod Distinct
+pub mod Each
+pub mod Equations
+pub mod Having
+pub mod Induction
+pub mod LeafSorts
+pub mod RunLemmas
+pub mod Sorting
+pub mod Standing
+pub mod StepSorts
+pub mod VerdictLemmas

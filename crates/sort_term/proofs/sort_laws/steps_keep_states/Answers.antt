@@ -1,0 +1,5 @@
+use Rattle.sort_term.proofs.StepSorts.{step_states}
+use Rattle.sort_term.proofs.sort_laws.steps_keep_states.Goals as goal
+
+pub returns : goal.returns
+returns c = step_states

@@ -1,0 +1,38 @@
+-- Laws of runs, steps and verdicts.
+use Rattle.std.specs.Prelude.{◌≡◌, ℕ, ◌≤◌, List, length}
+use Rattle.sort_term.specs.declared.semantics.Con.{Con}
+use Rattle.sort_term.specs.declared.semantics.Table.{Table}
+use Rattle.sort_term.specs.declared.ids.SortId.{SortId}
+use Rattle.sort_term.specs.declared.points.Cut.{Cut}
+use Rattle.sort_term.specs.declared.problem.Problem.{Problem}
+use Rattle.sort_term.specs.declared.rule.Rule.{Rule}
+use Rattle.sort_term.specs.System.{System}
+use Rattle.sort_term.specs.Tree.{Tree, Trees}
+use Rattle.sort_term.specs.Rules.{IsRule, IsSemantics}
+use Rattle.sort_term.specs.Fits.{IsCut}
+use Rattle.sort_term.specs.Step.{Tables, Takes, StepsBy}
+use Rattle.sort_term.specs.Cuts.{Covers, IsMetIn, IsLongIn}
+use Rattle.sort_term.specs.Verdict.{Kind, IsVerdict}
+
+-- where no run of n steps from s keeps its later states outside the cut, every met run from s has at most n steps
+abbrev pub MetRunsAreShort : Type 0 → Type 0
+MetRunsAreShort S =
+    (sys : System) (tables : Tables) (cuts : List (Cut S)) (n : ℕ) (s : Tree) → ((run : List (ℕ × Tree)) → ¬ IsLongIn sys tables cuts n s run) → (run : List (ℕ × Tree)) → IsMetIn sys tables cuts s run → length run ≤ n
+
+-- a problem has at most one verdict for a number of steps
+abbrev pub OneVerdict : Type 0
+OneVerdict = (q : Problem) (n : ℕ) (k l : Kind) → IsVerdict q n k → IsVerdict q n l → k ≡ l
+
+-- a rule that passed its checks takes a state to at most one state, and under at most one valuation
+abbrev pub OneInstance : Type 0
+OneInstance =
+    (cons : List Con) (declared : List Table) (config : SortId) (r : Rule) → IsRule cons declared config r → (tables : Tables) (v w : Trees) (s t u : Tree) → Takes cons tables r v s t → Takes cons tables r w s u → (v ≡ w) × (t ≡ u)
+
+-- so each rule of a semantics gives at most one step from a state
+abbrev pub OneStep : Type 0
+OneStep =
+    (sys : System) → IsSemantics sys → (tables : Tables) (n : ℕ) (s t u : Tree) → StepsBy sys tables n s t → StepsBy sys tables n s u → t ≡ u
+
+-- an item of a cut that passed its checks covers a state under at most one valuation
+abbrev pub OneCover : Type 0 → Type 0
+OneCover S = (sys : System) (item : Cut S) → IsCut sys item → (v w : Trees) (s : Tree) → Covers sys.cons item v s → Covers sys.cons item w s → v ≡ w

@@ -1,0 +1,13 @@
+//! Laws of sorts, for readers of the contracts. Each function does nothing; its contract is the law.
+ghost use Rattle.sort_term.specs.SortLaws.{ExprsKeepSorts, PatternsKeepSorts, StepsKeepStates};
+
+/// Under a valuation that fits, the value of an expression or a pattern is of its sort.
+pub fn values_keep_sorts()
+    ensures exprs { ExprsKeepSorts }
+    ensures patterns { PatternsKeepSorts }
+{}
+
+/// A step of a semantics goes from a state to a state.
+pub fn steps_keep_states()
+    ensures { StepsKeepStates }
+{}
