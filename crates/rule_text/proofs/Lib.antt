@@ -1,0 +1,8 @@
+pub mod Plain
+mod Lists
+mod Slices
+pub mod Trees
+mod TreeShapes
+mod ItemShapes
+mod UniqueTrees
+mod UniqueItems

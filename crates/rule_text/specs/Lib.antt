@@ -1,0 +1,5 @@
+pub mod Plain
+pub mod Written
+pub mod Lawful
+pub mod Writes
+pub mod ReadErrors
