@@ -1,0 +1,82 @@
+-- What a failure shows.
+use Rattle.std.specs.Prelude.{◌≡◌, ℕ, List, [], ◌∷◌, length, map}
+use Rattle.data_value.specs.declared.Value.{Value}
+use Rattle.sort_term.specs.declared.ids.RuleId.{RuleId}
+use Rattle.sort_term.specs.declared.points.Point.{Point}
+use Rattle.sort_term.specs.declared.problem.Problem.{Problem}
+use Rattle.sort_term.specs.declared.term.Term.TheVariants.{Plain}
+use Rattle.sort_term.specs.Tree.{Tree, Trees}
+use Rattle.sort_term.specs.Runs.{IsRun, reached, rules_of, IsMet, IsLong, IsHalted}
+use Rattle.sort_term.specs.Relation.{Side, left, right, Relates, Related, of_side, StepsOf, InCutOf, SucceedsOf}
+use Rattle.sort_term.specs.Simulation.{IsPoint, void, outside, long, halted}
+use Rattle.sort_term.specs.Verdict.{Kind, ungrounded, unmatched, refines, equivalent, IsVerdict}
+use Rattle.ground_step.specs.declared.verdict.SideName.{SideName}
+use Rattle.ground_step.specs.declared.verdict.SideName.TheVariants as name
+use Rattle.ground_step.specs.declared.verdict.Reached.{Reached}
+use Rattle.ground_step.specs.declared.verdict.Reached.TheVariants as on
+use Rattle.ground_step.specs.declared.verdict.Failure.{Failure}
+use Rattle.ground_step.specs.declared.verdict.Verdict.{Verdict}
+use Rattle.ground_step.specs.declared.verdict.Verdict.TheVariants as verdict
+
+abbrev pub side_of : SideName → Side
+side_of name.Left = left
+side_of name.Right = right
+
+-- the side and the tree of the last state of a run
+abbrev pub reached_side : Reached → Side
+reached_side (on.Left s) = left
+reached_side (on.Right s) = right
+
+abbrev pub reached_tree : Reached → Tree
+reached_tree (on.Left s) = s.term
+reached_tree (on.Right s) = s.term
+
+-- the point and the side of the failure are those of the kind
+abbrev pub IsAt : Kind → ℕ → Side → Type 0
+IsAt (ungrounded k void) point side = ⊥
+IsAt (ungrounded k (outside s)) point side = (k ≡ point) × (s ≡ side)
+IsAt (ungrounded k (long s)) point side = (k ≡ point) × (s ≡ side)
+IsAt (ungrounded k (halted s)) point side = (k ≡ point) × (s ≡ side)
+IsAt (unmatched k) point side = (k ≡ point) × (side ≡ right)
+IsAt (refines k) point side = (k ≡ point) × (side ≡ left)
+IsAt equivalent point side = ⊥
+
+-- what a run from a related pair (a, b) to the state t shows of a kind, for n steps: void and equivalent are shown by none
+abbrev pub ShowsKind : Problem → ℕ → Kind → Side → Tree → Tree → List (ℕ × Tree) → Tree → Type 0
+ShowsKind q n (ungrounded k void) side a b run t = ⊥
+ShowsKind q n (ungrounded k (outside s)) side a b run t = (run ≡ []) × ¬ InCutOf q side t
+ShowsKind q n (ungrounded k (long s)) side a b run t = IsLong (StepsOf q side) (InCutOf q side) n (of_side side a b) run
+ShowsKind q n (ungrounded k (halted s)) side a b run t = IsHalted (StepsOf q side) (InCutOf q side) (of_side side a b) run
+ShowsKind q n (unmatched k) side a b run t =
+    IsMet (StepsOf q right) (InCutOf q right) b run × ((a' : Tree) → SucceedsOf q left a a' → ¬ Related q.points.points a' t)
+ShowsKind q n (refines k) side a b run t =
+    IsMet (StepsOf q left) (InCutOf q left) a run × ((b' : Tree) → SucceedsOf q right b b' → ¬ Related q.points.points t b')
+ShowsKind q n equivalent side a b run t = ⊥
+
+-- a failure shows the verdict of a problem for n steps: a ground run from a related pair of the verdict's point, on the verdict's side
+pub record Shows (q : Problem) (n : ℕ) (kind : Kind) (f : Failure) : Type 0 where
+  -- the kind is the verdict, and the failure is at its point and side
+  pub is : IsVerdict q n kind
+  pub at : IsAt kind f.point (side_of f.side)
+  -- its states are a related pair of that point under its values
+  pub point : Point
+  pub there : IsPoint q f.point point
+  pub pair : Relates point (map (λ x. Plain x) f.values) f.left.term f.right.term
+  -- its rules are those of a run of that side from that side's state to the state that it reaches
+  pub run : List (ℕ × Tree)
+  pub runs : IsRun (StepsOf q (side_of f.side)) (of_side (side_of f.side) f.left.term f.right.term) run
+  pub rules : rules_of run ≡ map (λ r. r.0) f.rules
+  pub side : reached_side f.reached ≡ side_of f.side
+  pub last : reached (of_side (side_of f.side) f.left.term f.right.term) run ≡ reached_tree f.reached
+  -- what the run shows
+  pub shown : ShowsKind q n kind (side_of f.side) f.left.term f.right.term run (reached_tree f.reached)
+
+-- a verdict is right: it is the problem's verdict for n steps, and carries a failure that shows it, but for void and equivalent
+abbrev pub IsRight : Problem → ℕ → Verdict → Type 0
+IsRight q n verdict.Equivalent = IsVerdict q n equivalent
+IsRight q n (verdict.Refines f) = Shows q n (refines f.point) f
+IsRight q n (verdict.Unmatched f) = Shows q n (unmatched f.point) f
+IsRight q n (verdict.Void k) = IsVerdict q n (ungrounded k void)
+IsRight q n (verdict.Outside f) = Shows q n (ungrounded f.point (outside (side_of f.side))) f
+IsRight q n (verdict.Long f) = Shows q n (ungrounded f.point (long (side_of f.side))) f
+IsRight q n (verdict.Halted f) = Shows q n (ungrounded f.point (halted (side_of f.side))) f

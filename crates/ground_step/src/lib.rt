@@ -1,0 +1,17 @@
+//! Ground runs: steps, runs up to the cut, and the relation that the points denote.
+#![tactic(auto)]
+
+mod binds;
+mod evaluation;
+mod matching;
+mod reach;
+mod relation;
+mod run;
+mod steps;
+mod verdict;
+
+pub use reach::{GroundReach, cut_successors};
+pub use relation::{Fit, point_states, related};
+pub use run::{Run, RunStep, RunSteps, Runs};
+pub use steps::{in_cut, successors};
+pub use verdict::{Failure, Reached, SideName, Verdict};
