@@ -1,0 +1,20 @@
+-- How a call ends.
+use Rattle.std.specs.Prelude.{ℕ, ⊤}
+use Rattle.keq_cli.specs.declared.status.Status.{Status}
+use Rattle.keq_cli.specs.declared.status.Status.TheVariants.{Equivalent, Refused, ReadFault, WriteFault, NoMemory, Usage}
+
+-- the number that the process ends with
+abbrev pub code_of : Status → ℕ
+code_of Equivalent = 0
+code_of Refused = 4
+code_of ReadFault = 5
+code_of WriteFault = 6
+code_of NoMemory = 7
+code_of Usage = 8
+
+-- the call came to its end: no fetch and no put failed, and memory was found
+abbrev pub IsAnswer : Status → Type 0
+IsAnswer ReadFault = ⊥
+IsAnswer WriteFault = ⊥
+IsAnswer NoMemory = ⊥
+IsAnswer _ = ⊤

@@ -1,0 +1,23 @@
+//! The top call of the program, over two traits of the outside: a shelf of named texts and a sink for the report.
+#![tactic(auto)]
+
+mod check;
+mod equivalence;
+mod judge;
+mod memory_shelf;
+mod memory_sink;
+mod outside;
+mod status;
+#[cfg(test)]
+mod tests;
+mod texts;
+mod top;
+mod words;
+
+pub use memory_shelf::{CallList, Files, MemoryShelf, NamedText};
+pub use memory_sink::MemorySink;
+pub use no_memory::NoMemory;
+pub use outside::{Failed, Fetch, Shelf, Sink};
+pub use status::Status;
+pub use texts::Role;
+pub use top::keq;

@@ -1,0 +1,186 @@
+// What a call answers and writes, from the words, the shelf and the room of the sink.
+use crate::Status::{Equivalent, ReadFault, Refused, Usage, WriteFault};
+use crate::{Files, MemoryShelf, MemorySink, NamedText, NoMemory, Status, keq};
+use sexp_text::Name;
+use sqlite_items::Items;
+use std::alloc::{AllocError, Global};
+use std::test::Fail;
+
+const COUNTER: &[u8] = b"(sort St)
+(con Start ((bits 8)) St)
+(con At ((bits 8)) St)
+(con End ((bits 8)) St)
+(config St)
+(rule go (vars (n (bits 8))) (Start n) => (At n))
+(rule dec (vars (n (bits 8))) (At n) (when (not (eq n (bits 8 0)))) => (At (sub n (bits 8 1))))
+(rule fin (vars) (At 0) => (End 0))
+";
+
+// The counter that ends elsewhere.
+const ENDS_AT_ONE: &[u8] = b"(sort St)
+(con Start ((bits 8)) St)
+(con At ((bits 8)) St)
+(con End ((bits 8)) St)
+(config St)
+(rule go (vars (n (bits 8))) (Start n) => (At n))
+(rule dec (vars (n (bits 8))) (At n) (when (not (eq n (bits 8 0)))) => (At (sub n (bits 8 1))))
+(rule fin (vars) (At 0) => (End 1))
+";
+
+const POINTS: &[u8] = b"(cut left start (vars (n (bits 8))) (Start n))
+(cut left end (vars (n (bits 8))) (End n))
+(cut right start (vars (n (bits 8))) (Start n))
+(cut right end (vars (n (bits 8))) (End n))
+(point begin (vars) (Start 3) (Start 3))
+(point end (vars) (End 0) (End 0))
+";
+
+// Points with a variable and a condition, which the first form does not have.
+const POINTS_WITH_VARIABLE: &[u8] = b"(cut left start (vars (n (bits 8))) (Start n))
+(cut left end (vars (n (bits 8))) (End n))
+(cut right start (vars (n (bits 8))) (Start n))
+(cut right end (vars (n (bits 8))) (End n))
+(point begin (vars (n (bits 8))) (Start n) (Start n) (when (ult n (bits 8 11))))
+(point end (vars) (End 0) (End 0))
+";
+
+// A counter on both sides, but for one file that has another text.
+fn files(alloc: Global, other: &str, other_text: &[u8]) -> Result<Files, NoMemory> {
+    let texts: [(&str, &[u8]); 5] = [
+        ("ls", COUNTER),
+        ("rs", COUNTER),
+        ("lp", b""),
+        ("rp", b""),
+        ("pts", POINTS),
+    ];
+    let mut all = Items::new(alloc);
+    for (name, text) in texts {
+        let bytes = if name == other { other_text } else { text };
+        all.push(NamedText {
+            name: named(alloc, name)?,
+            bytes: Items::from_slice(alloc, bytes)?,
+        })?;
+    }
+    Ok(all)
+}
+
+fn named(alloc: Global, name: &str) -> Result<Name, NoMemory> {
+    let bytes = name.as_bytes();
+    if bytes.is_empty() || 64 < bytes.len() {
+        return Err(NoMemory);
+    }
+    Name::new(alloc, bytes)
+}
+
+fn split(alloc: Global, line: &str) -> Result<Vec<String>, AllocError> {
+    let mut words = Vec::new(alloc);
+    for word in line.split_whitespace() {
+        words.push(String::from_str(alloc, word)?)?;
+    }
+    Ok(words)
+}
+
+// What a call answers, and the sink afterwards.
+fn called(
+    alloc: Global,
+    line: &str,
+    files: Files,
+    fails: &[u64],
+    room: usize,
+) -> Result<(Status, MemorySink), Fail> {
+    let words = split(alloc, line)?;
+    let mut shelf = MemoryShelf::new(files, Items::from_slice(alloc, fails)?);
+    let mut out = MemorySink::new(alloc, room)?;
+    let status = keq(alloc, words.as_slice(), &mut shelf, &mut out);
+    Ok((status, out))
+}
+
+// Each row has the words, the numbers of the fetches that fail, the room of the sink, the status, and what was taken.
+#[test]
+fn words_and_faults(rt: HostRuntime) -> Result<(), Fail> {
+    let alloc = rt.alloc();
+    let yes = "equivalent\n";
+    let bad = "bad command line\n";
+    let long = "refused points not-equivalent\n";
+    let rows: [(&str, &[u64], usize, Status, &str); 17] = [
+        ("check ls rs lp rp pts 12", &[], 99, Equivalent, yes),
+        ("check ls rs lp rp pts 00012", &[], 99, Equivalent, yes),
+        ("check ls rs lp rp pts 10000", &[], 99, Equivalent, yes),
+        ("check ls rs lp rp pts 5", &[], 99, Equivalent, yes),
+        ("check ls rs lp rp pts 4", &[], 99, Refused, long),
+        ("check ls rs lp rp pts 12", &[3], 99, ReadFault, ""),
+        ("check ls rs none rp pts 12", &[], 99, ReadFault, ""),
+        (
+            "check ls rs lp rp pts 12",
+            &[],
+            10,
+            WriteFault,
+            "equivalent",
+        ),
+        ("", &[], 99, Usage, bad),
+        ("check ls rs lp rp 12", &[], 99, Usage, bad),
+        ("check ls rs lp rp pts", &[], 99, Usage, bad),
+        ("check ls rs lp rp pts 0", &[], 99, Usage, bad),
+        ("check ls rs lp rp pts 10001", &[], 99, Usage, bad),
+        ("check ls rs lp rp pts -1", &[], 99, Usage, bad),
+        ("check ls rs lp rp pts +12", &[], 99, Usage, bad),
+        ("check ls rs lp rp pts 000012", &[], 99, Usage, bad),
+        ("judge ls rs lp rp pts 12", &[], 3, WriteFault, "bad"),
+    ];
+    for (line, fails, room, status, taken) in rows {
+        let files = files(alloc, "", b"")?;
+        let (ended, out) = called(alloc, line, files, fails, room)?;
+        assert_eq!(rt; ended, status, "{line}");
+        assert_eq!(rt; out.bytes(), taken.as_bytes(), "{line}");
+    }
+    Ok(())
+}
+
+// Each row has a file's name, its text in place of the counter's, the status, and what was taken.
+#[test]
+fn texts(rt: HostRuntime) -> Result<(), Fail> {
+    let alloc = rt.alloc();
+    let rows: [(&str, &[u8], Status, &str); 9] = [
+        (
+            "rs",
+            ENDS_AT_ONE,
+            Refused,
+            "refused points not-equivalent\n",
+        ),
+        (
+            "ls",
+            ENDS_AT_ONE,
+            Refused,
+            "refused points not-equivalent\n",
+        ),
+        (
+            "pts",
+            POINTS_WITH_VARIABLE,
+            Refused,
+            "refused points unread\n",
+        ),
+        ("pts", b"", Refused, "refused points unread\n"),
+        ("pts", b"(point", Refused, "refused points unread\n"),
+        (
+            "lp",
+            b"(row code 0 (A))",
+            Refused,
+            "refused left-program unread\n",
+        ),
+        ("rp", b"; nothing", Equivalent, "equivalent\n"),
+        ("ls", b"", Refused, "refused left-semantics unread\n"),
+        (
+            "rs",
+            b"(sort St)(con A ((bits 65)) St)",
+            Refused,
+            "refused right-semantics unread\n",
+        ),
+    ];
+    for (name, text, status, taken) in rows {
+        let files = files(alloc, name, text)?;
+        let (ended, out) = called(alloc, "check ls rs lp rp pts 12", files, &[], 99)?;
+        assert_eq!(rt; ended, status, "{taken}");
+        assert_eq!(rt; out.bytes(), taken.as_bytes(), "{taken}");
+    }
+    Ok(())
+}

@@ -1,0 +1,58 @@
+// The words of a command line.
+ghost use Rattle.std.specs.Prelude.{◌≡◌};
+ghost use Rattle.std.specs.Option.{option_map};
+ghost use Rattle.keq_cli.specs.Words.{asked, steps_of};
+ghost use Rattle.keq_cli.specs.Asked.{command_view};
+
+/// What the words of a command line ask for.
+#[derive(Clone, Copy, Debug)]
+pub enum Command<'a> {
+    /// Judge five files.
+    Check(Check<'a>),
+}
+
+/// The names of the five files of a check, and its bound on runs.
+#[derive(Clone, Copy, Debug)]
+pub struct Check<'a> {
+    pub left_semantics: &'a str,
+    pub right_semantics: &'a str,
+    pub left_program: &'a str,
+    pub right_program: &'a str,
+    pub points: &'a str,
+    /// The greatest number of steps of a run to the next state of the cut, from 1 to 10,000.
+    pub steps: u32,
+}
+
+/// What the words ask for; None where they have none of the forms. It takes no memory.
+pub fn parse_words<'a>(words: &'a [String]) -> Option<Command<'a>>
+    ensures { option_map command_view result ≡ asked words.now }
+{
+    match words {
+        [verb, ls, rs, lp, rp, pts, steps] if verb.as_str() == "check" => {
+            Some(Command::Check(Check {
+                left_semantics: ls.as_str(),
+                right_semantics: rs.as_str(),
+                left_program: lp.as_str(),
+                right_program: rp.as_str(),
+                points: pts.as_str(),
+                steps: parse_steps(steps.as_str())?,
+            }))
+        }
+        _ => None,
+    }
+}
+
+// The number of one to five decimal digits, from 1 to 10,000. `parse` alone would take a plus in front.
+fn parse_steps(word: &str) -> Option<u32>
+    ensures { result ≡ steps_of word.now }
+{
+    if word.len() > 5 || word.starts_with('+') {
+        return None;
+    }
+    let steps = word.parse::<u32>().ok()?;
+    if (1..=10_000).contains(&steps) {
+        Some(steps)
+    } else {
+        None
+    }
+}
