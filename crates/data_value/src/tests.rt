@@ -1,5 +1,6 @@
 //! Values that solvers give by the theory `FixedSizeBitVectors`, maps, and one call of each function that allocates.
 ghost use Rattle.std.specs.Prelude.{◌≡◌, ◌<◌};
+ghost use Rattle.data_value.specs.Sorts.{IsWidth};
 ghost use Rattle.data_value.specs.Trials.{trial_word};
 ghost use Rattle.data_value.specs.Values.{IsScalar};
 
@@ -66,13 +67,19 @@ const PAIRS_OF_1: [[u64; 18]; 4] = [
 ];
 
 /// Two words of 8 bits, and what the operators of `ON_PAIRS` give, 1 for true.
-const PAIRS_OF_8: [[u64; 18]; 10] = [
+const PAIRS_OF_8: [[u64; 18]; 16] = [
     [0, 0, 0, 0, 0, 255, 0, 0, 0, 0, 0, 0, 0, 1, 0, 1, 0, 1],
+    [0, 1, 1, 255, 0, 0, 0, 0, 1, 1, 0, 0, 0, 0, 1, 1, 1, 1],
+    [0, 8, 8, 248, 0, 0, 0, 0, 8, 8, 0, 0, 0, 0, 1, 1, 1, 1],
     [0, 255, 255, 1, 0, 0, 0, 0, 255, 255, 0, 0, 0, 0, 1, 1, 0, 0],
     [1, 0, 1, 1, 0, 255, 1, 0, 1, 1, 1, 1, 1, 0, 0, 0, 0, 0],
+    [1, 1, 2, 0, 1, 1, 0, 1, 1, 0, 2, 0, 0, 1, 0, 1, 0, 1],
     [1, 8, 9, 249, 8, 0, 1, 0, 9, 9, 0, 0, 0, 0, 1, 1, 1, 1],
+    [1, 255, 0, 2, 255, 0, 1, 1, 255, 254, 0, 0, 0, 0, 1, 1, 0, 0],
+    [8, 0, 8, 8, 0, 255, 8, 0, 8, 8, 8, 8, 8, 0, 0, 0, 0, 0],
     [8, 1, 9, 7, 8, 8, 0, 0, 9, 9, 16, 4, 4, 0, 0, 0, 0, 0],
     [8, 8, 16, 0, 64, 1, 0, 8, 8, 0, 0, 0, 0, 1, 0, 1, 0, 1],
+    [8, 255, 7, 9, 248, 0, 8, 8, 255, 247, 0, 0, 0, 0, 1, 1, 0, 0],
     [
         255, 0, 255, 255, 0, 255, 255, 0, 255, 255, 255, 255, 255, 0, 0, 0, 1, 1,
     ],
@@ -88,18 +95,32 @@ const PAIRS_OF_8: [[u64; 18]; 10] = [
 ];
 
 /// Two words of 63 bits, and what the operators of `ON_PAIRS` give, 1 for true.
-const PAIRS_OF_63: [[u64; 18]; 10] = [
+const PAIRS_OF_63: [[u64; 18]; 16] = [
     [0, 0, 0, 0, 0, M63, 0, 0, 0, 0, 0, 0, 0, 1, 0, 1, 0, 1],
+    [0, 1, 1, M63, 0, 0, 0, 0, 1, 1, 0, 0, 0, 0, 1, 1, 1, 1],
+    [
+        0, 63, 63, M63_62, 0, 0, 0, 0, 63, 63, 0, 0, 0, 0, 1, 1, 1, 1,
+    ],
     [0, M63, M63, 1, 0, 0, 0, 0, M63, M63, 0, 0, 0, 0, 1, 1, 0, 0],
     [1, 0, 1, 1, 0, M63, 1, 0, 1, 1, 1, 1, 1, 0, 0, 0, 0, 0],
+    [1, 1, 2, 0, 1, 1, 0, 1, 1, 0, 2, 0, 0, 1, 0, 1, 0, 1],
     [
         1, 63, 64, M63_61, 63, 0, 1, 1, 63, 62, 0, 0, 0, 0, 1, 1, 1, 1,
+    ],
+    [
+        1, M63, 0, 2, M63, 0, 1, 1, M63, M63_1, 0, 0, 0, 0, 1, 1, 0, 0,
+    ],
+    [
+        63, 0, 63, 63, 0, M63, 63, 0, 63, 63, 63, 63, 63, 0, 0, 0, 0, 0,
     ],
     [
         63, 1, 64, 62, 63, 63, 0, 1, 63, 62, 126, 31, 31, 0, 0, 0, 0, 0,
     ],
     [
         63, 63, 126, 0, 3969, 1, 0, 63, 63, 0, 0, 0, 0, 1, 0, 1, 0, 1,
+    ],
+    [
+        63, M63, 62, 64, M63_62, 0, 63, 63, M63, M63_63, 0, 0, 0, 0, 1, 1, 0, 0,
     ],
     [
         M63, 0, M63, M63, 0, M63, M63, 0, M63, M63, M63, M63, M63, 0, 0, 0, 1, 1,
@@ -116,18 +137,32 @@ const PAIRS_OF_63: [[u64; 18]; 10] = [
 ];
 
 /// Two words of 64 bits, and what the operators of `ON_PAIRS` give, 1 for true.
-const PAIRS_OF_64: [[u64; 18]; 10] = [
+const PAIRS_OF_64: [[u64; 18]; 16] = [
     [0, 0, 0, 0, 0, M64, 0, 0, 0, 0, 0, 0, 0, 1, 0, 1, 0, 1],
+    [0, 1, 1, M64, 0, 0, 0, 0, 1, 1, 0, 0, 0, 0, 1, 1, 1, 1],
+    [
+        0, 64, 64, M64_63, 0, 0, 0, 0, 64, 64, 0, 0, 0, 0, 1, 1, 1, 1,
+    ],
     [0, M64, M64, 1, 0, 0, 0, 0, M64, M64, 0, 0, 0, 0, 1, 1, 0, 0],
     [1, 0, 1, 1, 0, M64, 1, 0, 1, 1, 1, 1, 1, 0, 0, 0, 0, 0],
+    [1, 1, 2, 0, 1, 1, 0, 1, 1, 0, 2, 0, 0, 1, 0, 1, 0, 1],
     [
         1, 64, 65, M64_62, 64, 0, 1, 0, 65, 65, 0, 0, 0, 0, 1, 1, 1, 1,
+    ],
+    [
+        1, M64, 0, 2, M64, 0, 1, 1, M64, M64_1, 0, 0, 0, 0, 1, 1, 0, 0,
+    ],
+    [
+        64, 0, 64, 64, 0, M64, 64, 0, 64, 64, 64, 64, 64, 0, 0, 0, 0, 0,
     ],
     [
         64, 1, 65, 63, 64, 64, 0, 0, 65, 65, 128, 32, 32, 0, 0, 0, 0, 0,
     ],
     [
         64, 64, 128, 0, 4096, 1, 0, 64, 64, 0, 0, 0, 0, 1, 0, 1, 0, 1,
+    ],
+    [
+        64, M64, 63, 65, M64_63, 0, 64, 64, M64, M64_64, 0, 0, 0, 0, 1, 1, 0, 0,
     ],
     [
         M64, 0, M64, M64, 0, M64, M64, 0, M64, M64, M64, M64, M64, 0, 0, 0, 1, 1,
@@ -143,31 +178,182 @@ const PAIRS_OF_64: [[u64; 18]; 10] = [
     ],
 ];
 
-/// A word of 1 bit, its complement, its negative, the word in 64 bits without and with its sign, its top and its lowest bit.
-const WORDS_OF_1: [[u64; 7]; 2] = [[0, 1, 0, 0, 0, 0, 0], [1, 0, 1, 1, M64, 1, 1]];
+/// A word of 1 bit, its complement, its negative.
+const WORDS_OF_1: [[u64; 3]; 2] = [[0, 1, 0], [1, 0, 1]];
 
-/// A word of 8 bits, its complement, its negative, the word in 64 bits without and with its sign, its top and its lowest bit.
-const WORDS_OF_8: [[u64; 7]; 4] = [
-    [0, 255, 0, 0, 0, 0, 0],
-    [1, 254, 255, 1, 1, 0, 1],
-    [8, 247, 248, 8, 8, 0, 0],
-    [255, 0, 1, 255, M64, 1, 1],
+/// A word of 8 bits, its complement, its negative.
+const WORDS_OF_8: [[u64; 3]; 4] = [[0, 255, 0], [1, 254, 255], [8, 247, 248], [255, 0, 1]];
+
+/// A word of 63 bits, its complement, its negative.
+const WORDS_OF_63: [[u64; 3]; 4] = [
+    [0, M63, 0],
+    [1, M63_1, M63],
+    [63, M63_63, M63_62],
+    [M63, 0, 1],
 ];
 
-/// A word of 63 bits, its complement, its negative, the word in 64 bits without and with its sign, its top and its lowest bit.
-const WORDS_OF_63: [[u64; 7]; 4] = [
-    [0, M63, 0, 0, 0, 0, 0],
-    [1, M63_1, M63, 1, 1, 0, 1],
-    [63, M63_63, M63_62, 63, 63, 0, 1],
-    [M63, 0, 1, M63, M64, 1, 1],
+/// A word of 64 bits, its complement, its negative.
+const WORDS_OF_64: [[u64; 3]; 4] = [
+    [0, M64, 0],
+    [1, M64_1, M64],
+    [64, M64_64, M64_63],
+    [M64, 0, 1],
 ];
 
-/// A word of 64 bits, its complement, its negative, the word in 64 bits without and with its sign, its top and its lowest bit.
-const WORDS_OF_64: [[u64; 7]; 4] = [
-    [0, M64, 0, 0, 0, 0, 0],
-    [1, M64_1, M64, 1, 1, 0, 1],
-    [64, M64_64, M64_63, 64, 64, 0, 0],
-    [M64, 0, 1, M64, M64, 1, 1],
+/// A width, a target width, a word, and the word in the target width without and with its sign.
+const EXTENSIONS: [(u8, u8, u64, u64, u64); 30] = [
+    (1, 1, 0, 0, 0),
+    (1, 1, 1, 1, 1),
+    (1, 2, 0, 0, 0),
+    (1, 2, 1, 1, 3),
+    (1, 64, 0, 0, 0),
+    (1, 64, 1, 1, M64),
+    (8, 8, 0, 0, 0),
+    (8, 8, 1, 1, 1),
+    (8, 8, 8, 8, 8),
+    (8, 8, 255, 255, 255),
+    (8, 9, 0, 0, 0),
+    (8, 9, 1, 1, 1),
+    (8, 9, 8, 8, 8),
+    (8, 9, 255, 255, 511),
+    (8, 64, 0, 0, 0),
+    (8, 64, 1, 1, 1),
+    (8, 64, 8, 8, 8),
+    (8, 64, 255, 255, M64),
+    (63, 63, 0, 0, 0),
+    (63, 63, 1, 1, 1),
+    (63, 63, 63, 63, 63),
+    (63, 63, M63, M63, M63),
+    (63, 64, 0, 0, 0),
+    (63, 64, 1, 1, 1),
+    (63, 64, 63, 63, 63),
+    (63, 64, M63, M63, M64),
+    (64, 64, 0, 0, 0),
+    (64, 64, 1, 1, 1),
+    (64, 64, 64, 64, 64),
+    (64, 64, M64, M64, M64),
+];
+
+/// A width, a highest and a lowest bit, a word, and the bits from the highest to the lowest.
+const EXTRACTS: [(u8, u8, u8, u64, u64); 62] = [
+    (1, 0, 0, 0, 0),
+    (1, 0, 0, 1, 1),
+    (8, 0, 0, 0, 0),
+    (8, 0, 0, 1, 1),
+    (8, 0, 0, 8, 0),
+    (8, 0, 0, 255, 1),
+    (8, 6, 0, 0, 0),
+    (8, 6, 0, 1, 1),
+    (8, 6, 0, 8, 8),
+    (8, 6, 0, 255, 127),
+    (8, 7, 0, 0, 0),
+    (8, 7, 0, 1, 1),
+    (8, 7, 0, 8, 8),
+    (8, 7, 0, 255, 255),
+    (8, 7, 1, 0, 0),
+    (8, 7, 1, 1, 0),
+    (8, 7, 1, 8, 4),
+    (8, 7, 1, 255, 127),
+    (8, 7, 7, 0, 0),
+    (8, 7, 7, 1, 0),
+    (8, 7, 7, 8, 0),
+    (8, 7, 7, 255, 1),
+    (63, 0, 0, 0, 0),
+    (63, 0, 0, 1, 1),
+    (63, 0, 0, 63, 1),
+    (63, 0, 0, M63, 1),
+    (63, 61, 0, 0, 0),
+    (63, 61, 0, 1, 1),
+    (63, 61, 0, 63, 63),
+    (63, 61, 0, M63, M63_BY_2),
+    (63, 62, 0, 0, 0),
+    (63, 62, 0, 1, 1),
+    (63, 62, 0, 63, 63),
+    (63, 62, 0, M63, M63),
+    (63, 62, 1, 0, 0),
+    (63, 62, 1, 1, 0),
+    (63, 62, 1, 63, 31),
+    (63, 62, 1, M63, M63_BY_2),
+    (63, 62, 62, 0, 0),
+    (63, 62, 62, 1, 0),
+    (63, 62, 62, 63, 0),
+    (63, 62, 62, M63, 1),
+    (64, 0, 0, 0, 0),
+    (64, 0, 0, 1, 1),
+    (64, 0, 0, 64, 0),
+    (64, 0, 0, M64, 1),
+    (64, 62, 0, 0, 0),
+    (64, 62, 0, 1, 1),
+    (64, 62, 0, 64, 64),
+    (64, 62, 0, M64, M63),
+    (64, 63, 0, 0, 0),
+    (64, 63, 0, 1, 1),
+    (64, 63, 0, 64, 64),
+    (64, 63, 0, M64, M64),
+    (64, 63, 1, 0, 0),
+    (64, 63, 1, 1, 0),
+    (64, 63, 1, 64, 32),
+    (64, 63, 1, M64, M63),
+    (64, 63, 63, 0, 0),
+    (64, 63, 63, 1, 0),
+    (64, 63, 63, 64, 0),
+    (64, 63, 63, M64, 1),
+];
+
+/// Two words, each after its width, and the one word of both, the first as the high bits.
+const CONCATS: [(u8, u64, u8, u64, u64); 52] = [
+    (1, 0, 1, 0, 0),
+    (1, 0, 1, 1, 1),
+    (1, 1, 1, 0, 2),
+    (1, 1, 1, 1, 3),
+    (1, 0, 8, 0, 0),
+    (1, 0, 8, 1, 1),
+    (1, 0, 8, 8, 8),
+    (1, 0, 8, 255, 255),
+    (1, 1, 8, 0, 256),
+    (1, 1, 8, 1, 257),
+    (1, 1, 8, 8, 264),
+    (1, 1, 8, 255, 511),
+    (8, 0, 1, 0, 0),
+    (8, 0, 1, 1, 1),
+    (8, 1, 1, 0, 2),
+    (8, 1, 1, 1, 3),
+    (8, 8, 1, 0, 16),
+    (8, 8, 1, 1, 17),
+    (8, 255, 1, 0, 510),
+    (8, 255, 1, 1, 511),
+    (8, 0, 8, 0, 0),
+    (8, 0, 8, 1, 1),
+    (8, 0, 8, 8, 8),
+    (8, 0, 8, 255, 255),
+    (8, 1, 8, 0, 256),
+    (8, 1, 8, 1, 257),
+    (8, 1, 8, 8, 264),
+    (8, 1, 8, 255, 511),
+    (8, 8, 8, 0, 2048),
+    (8, 8, 8, 1, 2049),
+    (8, 8, 8, 8, 2056),
+    (8, 8, 8, 255, 2303),
+    (8, 255, 8, 0, 0xff00),
+    (8, 255, 8, 1, 0xff01),
+    (8, 255, 8, 8, 0xff08),
+    (8, 255, 8, 255, 0xffff),
+    (1, 0, 63, 0, 0),
+    (1, 0, 63, 1, 1),
+    (1, 0, 63, 63, 63),
+    (1, 0, 63, M63, M63),
+    (1, 1, 63, 0, 0x8000_0000_0000_0000),
+    (1, 1, 63, 1, 0x8000_0000_0000_0001),
+    (1, 1, 63, 63, 0x8000_0000_0000_003f),
+    (1, 1, 63, M63, M64),
+    (63, 0, 1, 0, 0),
+    (63, 0, 1, 1, 1),
+    (63, 1, 1, 0, 2),
+    (63, 1, 1, 1, 3),
+    (63, 63, 1, 0, 126),
+    (63, 63, 1, 1, 127),
+    (63, M63, 1, 0, M64_1),
+    (63, M63, 1, 1, M64),
 ];
 
 fn word(rt: &impl Abort, width: u8, bits: u64) -> Scalar
@@ -202,6 +388,19 @@ fn of_two(rt: &impl Abort, op: Op, a: Scalar, b: Scalar) -> Scalar
     apply_scalar(op, &[a, b])
 }
 
+fn of_choice(rt: &impl Abort, flag: bool, a: Scalar, b: Scalar) -> Scalar
+    requires first { IsScalar a }
+    requires second { IsScalar b }
+{
+    let sorts = [
+        DataSort::Bool,
+        value_sort(&Value::One(a)),
+        value_sort(&Value::One(b)),
+    ];
+    assert!(rt; sort_of(Op::Ite, &sorts).is_some());
+    apply_scalar(Op::Ite, &[Scalar::Flag(flag), a, b])
+}
+
 fn try_pairs(rt: &impl Abort, width: u8, rows: &[[u64; 18]]) {
     for row in rows {
         let (x, y) = (row[0], row[1]);
@@ -221,19 +420,12 @@ fn operators_on_pairs(rt: HostRuntime) {
     try_pairs(&rt, 64, &PAIRS_OF_64);
 }
 
-fn try_words(rt: &impl Abort, width: u8, rows: &[[u64; 7]])
-    requires { 0 < width }
-{
-    let hi = width - 1;
-    let top = Op::Extract { hi, lo: hi };
-    let lowest = Op::Extract { hi: 0, lo: 0 };
-    let ops = [Op::BvNot, Op::Neg, Op::Zext(64), Op::Sext(64), top, lowest];
+fn try_words(rt: &impl Abort, width: u8, rows: &[[u64; 3]]) {
     for row in rows {
         let x = row[0];
-        for i in 0..6 {
-            let op = ops[i];
+        for (op, want) in [(Op::BvNot, row[1]), (Op::Neg, row[2])] {
             let got = number(of_one(rt, op, word(rt, width, x)));
-            assert_eq!(rt; got, row[i + 1], "{op:?} of {x} in {width} bits");
+            assert_eq!(rt; got, want, "{op:?} of {x} in {width} bits");
         }
     }
 }
@@ -244,6 +436,52 @@ fn operators_on_words(rt: HostRuntime) {
     try_words(&rt, 8, &WORDS_OF_8);
     try_words(&rt, 63, &WORDS_OF_63);
     try_words(&rt, 64, &WORDS_OF_64);
+}
+
+#[test]
+fn extensions(rt: HostRuntime) {
+    for (width, target, x, unsigned, signed) in EXTENSIONS {
+        for (op, want) in [(Op::Zext(target), unsigned), (Op::Sext(target), signed)] {
+            let got = of_one(&rt, op, word(&rt, width, x));
+            assert_eq!(rt;
+                got,
+                word(&rt, target, want),
+                "{op:?} of {x} in {width} bits"
+            );
+        }
+    }
+}
+
+#[test]
+fn extracts(rt: HostRuntime) {
+    for (width, hi, lo, x, want) in EXTRACTS {
+        let got = number(of_one(&rt, Op::Extract { hi, lo }, word(&rt, width, x)));
+        assert_eq!(rt; got, want, "bits {hi} to {lo} of {x} in {width} bits");
+    }
+}
+
+#[test]
+fn concats(rt: HostRuntime) {
+    for (high_width, high, low_width, low, want) in CONCATS {
+        let (x, y) = (word(&rt, high_width, high), word(&rt, low_width, low));
+        let got = number(of_two(&rt, Op::Concat, x, y));
+        assert_eq!(rt;
+            got,
+            want,
+            "{high} in {high_width} bits before {low} in {low_width}"
+        );
+    }
+}
+
+#[test]
+fn choices_of_words(rt: HostRuntime) {
+    for (width, most) in [(1, 1), (8, 255), (63, M63), (64, M64)] {
+        for (x, y) in [(0, 1), (1, width as u64), (width as u64, most), (most, 0)] {
+            let (a, b) = (word(&rt, width, x), word(&rt, width, y));
+            assert_eq!(rt; number(of_choice(&rt, true, a, b)), x);
+            assert_eq!(rt; number(of_choice(&rt, false, a, b)), y);
+        }
+    }
 }
 
 #[test]
@@ -374,7 +612,56 @@ fn selected(rt: &impl Abort, alloc: Global, map: Value, key: Value) -> Result<Va
 }
 
 fn byte(bits: u64) -> Value {
-    Value::One(Scalar::Bits { width: 8, bits })
+    bits_value(8, bits)
+}
+
+fn bits_value(width: u8, bits: u64) -> Value {
+    Value::One(Scalar::Bits { width, bits })
+}
+
+/// Puts the word at the key into the empty map, and reads it and the word at another key.
+fn try_map(
+    rt: &impl Abort,
+    alloc: Global,
+    width: u8,
+    key: u64,
+    bits: u64,
+) -> Result<(u64, u64), NoMemory>
+    requires { IsWidth width }
+{
+    let empty = Value::Map(MapValue::zeros(alloc, width, width));
+    let map = stored(
+        rt,
+        alloc,
+        empty,
+        bits_value(width, key),
+        bits_value(width, bits),
+    )?;
+    let other = if key == 0 { 1 } else { 0 };
+    let same = copy_value(alloc, &map)?;
+    let there = selected(rt, alloc, map, bits_value(width, key))?;
+    let elsewhere = selected(rt, alloc, same, bits_value(width, other))?;
+    Ok((value_number(&there), value_number(&elsewhere)))
+}
+
+fn value_number(value: &Value) -> u64 {
+    match value {
+        Value::One(scalar) => number(*scalar),
+        Value::Map(map) => map.len() as u64,
+    }
+}
+
+#[test]
+fn maps_at_the_ends(rt: HostRuntime) -> Result<(), Fail> {
+    for (width, most) in [(1, 1), (8, 255), (63, M63), (64, M64)] {
+        for key in [0, 1, width as u64, most] {
+            for bits in [0, 1, width as u64, most] {
+                let got = try_map(&rt, rt.alloc(), width, key, bits)?;
+                assert_eq!(rt; got, (bits, 0), "{bits} at {key} in {width} bits");
+            }
+        }
+    }
+    Ok(())
 }
 
 #[test]
