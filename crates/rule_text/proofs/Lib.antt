@@ -6,3 +6,5 @@ mod TreeShapes
 mod ItemShapes
 mod UniqueTrees
 mod UniqueItems
+pub mod Texts
+pub mod Turns

@@ -3,3 +3,5 @@ pub mod Written
 pub mod Lawful
 pub mod Writes
 pub mod ReadErrors
+pub mod Text
+pub mod Turns

@@ -13,6 +13,36 @@ fn count(alloc: Global, kind: FileKind, text: &[u8]) -> Result<Option<usize>, Fa
     }
 }
 
+// How many items the bytes have, or none where they are unread.
+fn count_read(alloc: Global, kind: FileKind, text: &[u8]) -> Result<Option<usize>, Fail> {
+    match read_items(alloc, kind, text) {
+        Ok(items) => Ok(Some(items.len())),
+        Err(LoadError::Unread) => Ok(None),
+        Err(LoadError::NoMemory) => Err(Fail::from("no memory")),
+    }
+}
+
+#[test]
+fn reads_items_of_bytes(rt: HostRuntime) -> Result<(), Fail> {
+    let cases: [(FileKind, &[u8], Option<usize>); 7] = [
+        (FileKind::Semantics, b"(sort St) ; the states", Some(1)),
+        (
+            FileKind::Semantics,
+            b"; one\r still one\n(config St)",
+            Some(1),
+        ),
+        (FileKind::Semantics, b"; \xff", None),
+        (FileKind::Semantics, b"(sort St", None),
+        (FileKind::Points, b"(sort St)", None),
+        (FileKind::Program, b" ; nothing\n", Some(0)),
+        (FileKind::Program, b")", None),
+    ];
+    for (kind, text, want) in cases {
+        assert_eq!(rt; count_read(rt.alloc(), kind, text)?, want, "{text:?}");
+    }
+    Ok(())
+}
+
 #[test]
 fn takes_items_of_semantics(rt: HostRuntime) -> Result<(), Fail> {
     let alloc = rt.alloc();
