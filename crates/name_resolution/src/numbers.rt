@@ -1,31 +1,43 @@
 // Numbers with a width.
-use data_value::{DataSort, Scalar};
-use rule_text::LoadError;
+ghost use Rattle.std.specs.Prelude.{◌≡◌, option_copied};
+ghost use Rattle.data_value.specs.Sorts.{is_width};
+ghost use Rattle.name_resolution.specs.Known.{word_of};
+ghost use Rattle.name_resolution.specs.Reads.{number_at};
+
+use data_value::{DataSort, Scalar, Value, is_value};
 use sort_term::Sort;
 
-/// The bit vector of a width and a number that are written. A width that no byte holds is `Unread`.
-pub fn bits(width: u64, number: u64) -> Result<Scalar, LoadError> {
-    Ok(Scalar::Bits {
-        width: byte(width)?,
-        bits: number,
-    })
+/// Whether a number is a width in bits, from 1 to 64.
+pub fn is_width(width: u64) -> bool
+    ensures { result ≡ is_width width }
+{
+    1 <= width && width <= 64
 }
 
-/// The bit vector of a bare number, where the sort of its place is one of bit vectors.
-pub fn bare(sort: Option<&Sort>, number: u64) -> Result<Scalar, LoadError> {
-    match sort {
-        Some(Sort::Plain(DataSort::Bits(width))) => Ok(Scalar::Bits {
-            width: *width,
-            bits: number,
-        }),
-        _ => Err(LoadError::Unread),
+/// The bit vector of a width and a number; None where the width is not from 1 to 64 or doesn't hold the number.
+pub fn bits(width: u64, number: u64) -> Option<Scalar>
+    ensures { result ≡ word_of width number }
+{
+    if !is_width(width) {
+        return None;
+    }
+    let scalar = Scalar::Bits {
+        width: width as u8,
+        bits: number,
+    };
+    if is_value(&Value::One(scalar)) {
+        Some(scalar)
+    } else {
+        None
     }
 }
 
-/// A written width as a byte, which every lawful width fits.
-pub fn byte(width: u64) -> Result<u8, LoadError> {
-    match u8::try_from(width) {
-        Ok(width) => Ok(width),
-        Err(_) => Err(LoadError::Unread),
+/// The bit vector of a bare number, where the sort of its place is one of bit vectors that hold it; else None.
+pub fn bare(place: Option<&Sort>, number: u64) -> Option<Scalar>
+    ensures { result ≡ number_at (option_copied place.entry) number }
+{
+    match place {
+        Some(Sort::Plain(DataSort::Bits(width))) => bits(*width as u64, number),
+        _ => None,
     }
 }

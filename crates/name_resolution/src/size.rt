@@ -1,21 +1,24 @@
 // How many forms a tree was written with.
-use rule_text::{LoadError, RawTree};
+ghost use Rattle.std.specs.Prelude.{◌≡◌, ◌≤◌, ◌↔◌, IsTrue, map, min, sum};
+ghost use Rattle.name_resolution.specs.Sizes.{forms_of};
+
+use rule_text::RawTree;
 
 /// A written pattern or expression has at most this many forms.
 const MOST_FORMS: usize = 4096;
 
 /// Whether a tree was written with at most 4,096 forms: each word, number and list counts.
-pub fn check_size(raw: &RawTree) -> Result<(), LoadError> {
-    if forms_of(raw) <= MOST_FORMS {
-        Ok(())
-    } else {
-        Err(LoadError::Unread)
-    }
+pub fn is_short(raw: &RawTree) -> bool
+    ensures { IsTrue result ↔ (forms_of raw.now ≤ 4096) }
+{
+    forms_of(raw) <= MOST_FORMS
 }
 
 // The forms of a tree, as far as they can be counted.
 #[cycle(forms)]
-fn forms_of(raw: &RawTree) -> usize {
+fn forms_of(raw: &RawTree) -> usize
+    ensures { result ≡ min (forms_of raw.now) 18446744073709551615 }
+{
     match raw {
         RawTree::Word(_) | RawTree::Number(_) => 1,
         RawTree::Bits(..) => 4,
@@ -25,8 +28,11 @@ fn forms_of(raw: &RawTree) -> usize {
     }
 }
 
+// The forms of some trees together, as far as they can be counted.
 #[cycle(forms)]
-fn forms_of_all(raws: &[RawTree]) -> usize {
+fn forms_of_all(raws: &[RawTree]) -> usize
+    ensures { result ≡ min (sum (map forms_of raws.now)) 18446744073709551615 }
+{
     let mut count = 0usize;
     for raw in raws {
         count = count.saturating_add(forms_of(raw));

@@ -1,0 +1,3 @@
+pub mod Places
+mod Arguments
+pub mod Unique
