@@ -1,1 +1,6 @@
+pub mod Binds
+pub mod Fit
+pub mod Reach
+pub mod Ready
 pub mod Shows
+pub mod Steps

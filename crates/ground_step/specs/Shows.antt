@@ -1,11 +1,9 @@
 -- What a failure shows.
-use Rattle.std.specs.Prelude.{◌≡◌, ℕ, List, [], ◌∷◌, length, map}
-use Rattle.data_value.specs.declared.Value.{Value}
-use Rattle.sort_term.specs.declared.ids.RuleId.{RuleId}
+use Rattle.std.specs.Prelude.{◌≡◌, ℕ, List, [], map}
 use Rattle.sort_term.specs.declared.points.Point.{Point}
 use Rattle.sort_term.specs.declared.problem.Problem.{Problem}
 use Rattle.sort_term.specs.declared.term.Term.TheVariants.{Plain}
-use Rattle.sort_term.specs.Tree.{Tree, Trees}
+use Rattle.sort_term.specs.Tree.{Tree}
 use Rattle.sort_term.specs.Runs.{IsRun, reached, rules_of, IsMet, IsLong, IsHalted}
 use Rattle.sort_term.specs.Relation.{Side, left, right, Relates, Related, of_side, StepsOf, InCutOf, SucceedsOf}
 use Rattle.sort_term.specs.Simulation.{IsPoint, void, outside, long, halted}

@@ -1,38 +1,39 @@
 // The value of an expression where its variables are bound.
-ghost use Rattle.std.specs.Prelude.{◌≡◌, IsTrue, ◌↔◌, All, IfOk, map};
-ghost use Rattle.data_value.specs.Values.{IsValue, value_sort};
+ghost use Rattle.std.specs.Prelude.{◌≡◌, ◌↔◌, All, IfOk, IsTrue, Some, map, slice_get};
+ghost use Rattle.sort_term.specs.Tree.{IsTrueTree, Tree, plain_of, value};
+ghost use Rattle.sort_term.specs.Cuts.{AllTrue};
+ghost use Rattle.data_value.specs.Ops.{op_value};
+ghost use Rattle.ground_step.specs.Binds.{GiveAll, Gives, Narrows};
+ghost use Rattle.ground_step.specs.Ready.{IsApplicable, IsReady};
 
 use crate::binds::Binds;
-use data_value::{
-    DataSort, Op, Scalar, Value, Values, apply_value, copy_value, is_value, sort_of, value_sort,
-};
+use data_value::{Op, Scalar, Value, Values, apply_value, copy_value};
 use no_memory::NoMemory;
 use sort_term::{RuleExpr, Term, Terms, copy_term};
 use sqlite_items::Items;
 use std::alloc::Global;
 
-/// The value of an expression. There is none where it reads a variable that isn't bound, or an operator's arguments have other
-/// sorts than it takes, which no expression of a loaded text does.
+/// The value of an expression.
 #[cycle(evaluate)]
 pub fn evaluate(
     alloc: Global,
     expression: &RuleExpr,
     binds: &Binds,
-) -> Result<Option<Term<Value>>, NoMemory> {
+) -> Result<Term<Value>, NoMemory>
+    requires { IsReady binds.now expression.now }
+    ensures { IfOk result (λ tree. Gives binds.now expression.now tree) }
+{
     match expression {
-        RuleExpr::Var(variable) => match binds.get(*variable) {
-            Some(Some(tree)) => Ok(Some(copy_term(alloc, tree)?)),
-            _ => Ok(None),
-        },
-        RuleExpr::Lit(value) => Ok(Some(Term::Plain(copy_value(alloc, value)?))),
-        RuleExpr::Op(op, args) => match evaluate_all(alloc, args.as_slice(), binds)? {
-            Some(args) => applied(alloc, *op, args),
-            None => Ok(None),
-        },
-        RuleExpr::Con(con, args) => match evaluate_all(alloc, args.as_slice(), binds)? {
-            Some(args) => Ok(Some(Term::Con(*con, args))),
-            None => Ok(None),
-        },
+        RuleExpr::Var(variable) => bound_tree(alloc, binds, *variable),
+        RuleExpr::Lit(value) => Ok(Term::Plain(copy_value(alloc, value)?)),
+        RuleExpr::Op(op, args) => {
+            let trees = evaluate_all(alloc, args.as_slice(), binds)?;
+            applied(alloc, *op, trees.as_slice())
+        }
+        RuleExpr::Con(con, args) => {
+            let trees = evaluate_all(alloc, args.as_slice(), binds)?;
+            Ok(Term::Con(*con, trees))
+        }
     }
 }
 
@@ -41,66 +42,82 @@ fn evaluate_all(
     alloc: Global,
     expressions: &[RuleExpr],
     binds: &Binds,
-) -> Result<Option<Terms<Value>>, NoMemory> {
+) -> Result<Terms<Value>, NoMemory>
+    requires { All (IsReady binds.now) expressions.now }
+    ensures { IfOk result (λ trees. GiveAll binds.now expressions.now trees) }
+{
     let mut trees = Items::new(alloc);
     for expression in expressions {
-        match evaluate(alloc, expression, binds)? {
-            Some(tree) => trees.push(tree)?,
-            None => return Ok(None),
-        }
+        let tree = evaluate(alloc, expression, binds)?;
+        trees.push(tree)?;
     }
-    Ok(Some(trees))
+    Ok(trees)
+}
+
+fn bound_tree(alloc: Global, binds: &Binds, variable: usize) -> Result<Term<Value>, NoMemory>
+    requires { (tree : Tree) × (slice_get binds.now variable ≡ Some (Some tree)) }
+    ensures { IfOk result (λ tree. slice_get binds.now variable ≡ Some (Some tree)) }
+{
+    match binds.get(variable) {
+        Some(Some(tree)) => copy_term(alloc, tree),
+        Some(None) => unreachable!(),
+        None => unreachable!(),
+    }
 }
 
 // The value of an operator at trees that are values of its sorts.
-fn applied(alloc: Global, op: Op, args: Terms<Value>) -> Result<Option<Term<Value>>, NoMemory> {
-    let Some(values) = plain_values(alloc, args.as_slice())? else {
-        return Ok(None);
-    };
-    let sorts = sorts_of(alloc, values.as_slice())?;
-    let Some(_sort) = sort_of(op, sorts.as_slice()) else {
-        return Ok(None);
-    };
-    if !are_values(values.as_slice()) {
-        return Ok(None);
-    }
-    Ok(Some(Term::Plain(apply_value(alloc, op, values.as_slice())?)))
-}
-
-fn sorts_of(alloc: Global, values: &[Value]) -> Result<Vec<DataSort>, NoMemory>
-    ensures { IfOk result (λ sorts. sorts.items ≡ map value_sort values.now) }
+fn applied(alloc: Global, op: Op, trees: &[Term<Value>]) -> Result<Term<Value>, NoMemory>
+    requires { IsApplicable op (map plain_of trees.now) }
+    ensures { IfOk result (λ tree. tree ≡ Term.Plain (op_value op (map plain_of trees.now))) }
 {
-    Ok(values.iter().map(|value| value_sort(value)).collect(alloc)?)
+    let values = plain_values(alloc, trees)?;
+    Ok(Term::Plain(apply_value(alloc, op, values.as_slice())?))
 }
 
-fn are_values(values: &[Value]) -> bool
-    ensures { IsTrue result ↔ All IsValue values.now }
+fn plain_values(alloc: Global, trees: &[Term<Value>]) -> Result<Values, NoMemory>
+    ensures { IfOk result (λ values. values ≡ map plain_of trees.now) }
 {
-    values.iter().all(|value| is_value(value))
-}
-
-// The values that trees are, where all are values.
-fn plain_values(alloc: Global, trees: &[Term<Value>]) -> Result<Option<Values>, NoMemory> {
     let mut values = Items::new(alloc);
     for tree in trees {
-        match tree {
-            Term::Plain(value) => values.push(copy_value(alloc, value)?)?,
-            Term::Con(..) => return Ok(None),
-        }
+        let value = plain_value(alloc, tree)?;
+        values.push(value)?;
     }
-    Ok(Some(values))
+    Ok(values)
+}
+
+/// The value that a tree is, false where it is none.
+pub fn plain_value(alloc: Global, tree: &Term<Value>) -> Result<Value, NoMemory>
+    ensures { IfOk result (λ value. value ≡ plain_of tree.now) }
+{
+    match tree {
+        Term::Con(..) => Ok(Value::One(Scalar::Flag(false))),
+        Term::Plain(value) => copy_value(alloc, value),
+    }
+}
+
+fn is_true(tree: &Term<Value>) -> bool
+    ensures { IsTrue result ↔ IsTrueTree tree.now }
+{
+    match tree {
+        Term::Plain(Value::One(Scalar::Flag(flag))) => *flag,
+        _ => false,
+    }
 }
 
 /// Whether a condition is true.
-pub fn holds(alloc: Global, condition: &RuleExpr, binds: &Binds) -> Result<bool, NoMemory> {
-    match evaluate(alloc, condition, binds)? {
-        Some(Term::Plain(Value::One(Scalar::Flag(flag)))) => Ok(flag),
-        _ => Ok(false),
-    }
+pub fn holds(alloc: Global, condition: &RuleExpr, binds: &Binds) -> Result<bool, NoMemory>
+    requires { IsReady binds.now condition.now }
+    ensures { IfOk result (λ ok. Narrows binds.now binds.now ok (λ v. IsTrueTree (value v condition.now))) }
+{
+    let tree = evaluate(alloc, condition, binds)?;
+    Ok(is_true(&tree))
 }
 
 /// Whether all conditions are true.
-pub fn all_hold(alloc: Global, conditions: &[RuleExpr], binds: &Binds) -> Result<bool, NoMemory> {
+pub fn all_hold(alloc: Global, conditions: &[RuleExpr], binds: &Binds) -> Result<bool, NoMemory>
+    requires { All (IsReady binds.now) conditions.now }
+    ensures { IfOk result (λ ok. Narrows binds.now binds.now ok (λ v. AllTrue v conditions.now)) }
+{
     for condition in conditions {
         if !holds(alloc, condition, binds)? {
             return Ok(false);

@@ -8,6 +8,8 @@ mod reach;
 mod relation;
 mod run;
 mod steps;
+#[cfg(test)]
+mod tests;
 mod verdict;
 
 pub use reach::{GroundReach, cut_successors};

@@ -1,4 +1,12 @@
 // Runs up to the cut.
+ghost use Rattle.std.specs.Prelude.{◌≡◌, ◌≢◌, ◌≤◌, [], All, IfOk};
+ghost use Rattle.sort_term.specs.Step.{IsState, StepsBy};
+ghost use Rattle.sort_term.specs.Cuts.{InCut};
+ghost use Rattle.sort_term.specs.Rules.{IsSemantics};
+ghost use Rattle.sort_term.specs.Fits.{AreCuts, IsProgram};
+ghost use Rattle.ground_step.specs.Steps.{steps_of};
+ghost use Rattle.ground_step.specs.Reach.{Adds, AreExactly, EndsIn, EndsInState, Extends, HaltedFrom, LongFrom, MetFrom, Stops, StopsMoved, run_of, runs_of, with_each};
+
 use crate::run::{Run, RunSteps, Runs};
 use crate::steps::{in_cut, successors};
 use no_memory::NoMemory;
@@ -14,7 +22,7 @@ pub struct GroundReach<S: Side> {
     /// The runs of exactly as many steps as the limit, whose later states all lie outside the cut.
     pub long: Runs<S>,
     /// The runs of at least one step, up to the limit, whose later states all lie outside the cut and whose last state has no
-    /// step.
+    /// step. Those of exactly as many steps as the limit are in `long` too.
     pub halted: Runs<S>,
 }
 
@@ -26,82 +34,145 @@ pub fn cut_successors<S: Side>(
     cuts: &Cuts<S>,
     state: &State<S>,
     steps: u32,
-) -> Result<GroundReach<S>, NoMemory> {
-    let mut reach = GroundReach {
-        met: Items::new(alloc),
-        long: Items::new(alloc),
-        halted: Items::new(alloc),
-    };
-    let mut open = Vec::new(alloc);
-    open.push(Run::at(alloc, state)?)?;
+) -> Result<GroundReach<S>, NoMemory>
+    requires program { IsProgram semantics.now program.now }
+    requires cuts { AreCuts semantics.now cuts.now }
+    requires state { IsState semantics.now state.now.term }
+    requires steps { 1 ≤ steps }
+    ensures met { IfOk result (λ reach. AreExactly (MetFrom semantics.now program.now cuts.now state.now.term steps) (runs_of reach.met)) }
+    ensures long { IfOk result (λ reach. AreExactly (LongFrom semantics.now program.now cuts.now state.now.term steps) (runs_of reach.long)) }
+    ensures halted { IfOk result (λ reach. AreExactly (HaltedFrom semantics.now program.now cuts.now state.now.term steps) (runs_of reach.halted)) }
+{
+    // Reading its rules shows that the semantics has passed its checks.
+    let _rules = semantics.rules();
+    let mut met = Items::new(alloc);
+    let mut halted = Items::new(alloc);
+    let mut outside = Vec::new(alloc);
+    outside.push(Run::at(alloc, state)?)?;
     for _level in 0..steps {
-        open = next_level(alloc, semantics, program, cuts, open, &mut reach)?;
+        outside = next_level(
+            alloc,
+            semantics,
+            program,
+            cuts,
+            outside,
+            &mut met,
+            &mut halted,
+        )?;
     }
-    for run in open.as_slice() {
-        if successors(alloc, semantics, program, run.last())?.is_empty() {
-            reach.halted.push(run.copy(alloc)?)?;
-        }
-    }
-    reach.long = Items::from_vec(open);
-    Ok(reach)
+    note_halted(alloc, semantics, program, outside.as_slice(), &mut halted)?;
+    Ok(GroundReach {
+        met,
+        long: Items::from_vec(outside),
+        halted,
+    })
 }
 
-// The open runs that are one step longer. Those that end now are noted.
+// Notes those of the runs whose last states have no step.
+fn note_halted<S: Side>(
+    alloc: Global,
+    semantics: &Semantics<S>,
+    program: &Program<S>,
+    runs: &[Run<S>],
+    halted: &mut Runs<S>,
+) -> Result<(), NoMemory>
+    requires program { IsProgram semantics.now program.now }
+    requires states { All (EndsInState semantics.now) (runs_of runs.now) }
+    ensures { IfOk result (λ _. Adds (Stops (StepsBy semantics.now program.now) (runs_of runs.now)) (runs_of halted.old) (runs_of halted.new)) }
+{
+    for run in runs {
+        if successors(alloc, semantics, program, run.last())?.is_empty() {
+            halted.push(run.copy(alloc)?)?;
+        }
+    }
+    Ok(())
+}
+
+// The runs outside the cut that are one step longer. Those that end now are noted.
 fn next_level<S: Side>(
     alloc: Global,
     semantics: &Semantics<S>,
     program: &Program<S>,
     cuts: &Cuts<S>,
-    open: Vec<Run<S>>,
-    reach: &mut GroundReach<S>,
-) -> Result<Vec<Run<S>>, NoMemory> {
+    outside: Vec<Run<S>>,
+    met: &mut Runs<S>,
+    halted: &mut Runs<S>,
+) -> Result<Vec<Run<S>>, NoMemory>
+    requires lawful { IsSemantics semantics.now }
+    requires program { IsProgram semantics.now program.now }
+    requires cuts { AreCuts semantics.now cuts.now }
+    requires states { All (EndsInState semantics.now) (runs_of outside.items) }
+    ensures outside { IfOk result (λ longer. AreExactly (Extends (StepsBy semantics.now program.now) (runs_of outside.items) (λ t. ¬ InCut semantics.now.cons cuts.now t)) (runs_of longer.items)) }
+    ensures met { IfOk result (λ _. Adds (Extends (StepsBy semantics.now program.now) (runs_of outside.items) (InCut semantics.now.cons cuts.now)) (runs_of met.old) (runs_of met.new)) }
+    ensures halted { IfOk result (λ _. Adds (StopsMoved (StepsBy semantics.now program.now) (runs_of outside.items)) (runs_of halted.old) (runs_of halted.new)) }
+{
     let mut longer = Vec::new(alloc);
-    for run in open {
+    for run in outside {
         let steps = successors(alloc, semantics, program, run.last())?;
-        extend(alloc, cuts, run, steps, &mut longer, reach)?;
+        if steps.is_empty() {
+            note_moved(run, halted)?;
+        } else {
+            let runs = with_each(alloc, run, steps)?;
+            part(alloc, semantics, cuts, runs, &mut longer, met)?;
+        }
     }
     Ok(longer)
 }
 
-// The run with each of the steps behind it, or halted where there is none. The last step takes the run itself, so that a run
-// without branches is never copied.
-fn extend<S: Side>(
+// Notes a run as halted if it has a step.
+fn note_moved<S: Side>(run: Run<S>, halted: &mut Runs<S>) -> Result<(), NoMemory>
+    ensures { IfOk result (λ _. Adds (λ p. (p ≡ run_of run) × (p.1 ≢ [])) (runs_of halted.old) (runs_of halted.new)) }
+{
+    if !run.steps.is_empty() {
+        halted.push(run)?;
+    }
+    Ok(())
+}
+
+// The run with each of the steps behind it. The last step takes the run itself, so that a run without branches is never copied.
+fn with_each<S: Side>(
     alloc: Global,
-    cuts: &Cuts<S>,
     run: Run<S>,
     steps: RunSteps<S>,
-    open: &mut Vec<Run<S>>,
-    reach: &mut GroundReach<S>,
-) -> Result<(), NoMemory> {
+) -> Result<Vec<Run<S>>, NoMemory>
+    ensures { IfOk result (λ runs. runs_of runs.items ≡ with_each (run_of run) (steps_of steps)) }
+{
     let mut run = run;
     let mut steps = steps;
+    let mut runs = Vec::new(alloc);
     let Some(last) = steps.pop() else {
-        if !run.steps.is_empty() {
-            reach.halted.push(run)?;
-        }
-        return Ok(());
+        return Ok(runs);
     };
     for step in steps.as_slice() {
         let mut longer = run.copy(alloc)?;
         longer.steps.push(step.copy(alloc)?)?;
-        keep(alloc, cuts, longer, open, &mut reach.met)?;
+        runs.push(longer)?;
     }
     run.steps.push(last)?;
-    keep(alloc, cuts, run, open, &mut reach.met)
+    runs.push(run)?;
+    Ok(runs)
 }
 
-// Notes a run as met where its last state is in the cut, else as open.
-fn keep<S: Side>(
+// Notes the runs whose last states are in the cut as met, the others as still outside.
+fn part<S: Side>(
     alloc: Global,
+    semantics: &Semantics<S>,
     cuts: &Cuts<S>,
-    run: Run<S>,
-    open: &mut Vec<Run<S>>,
+    runs: Vec<Run<S>>,
+    outside: &mut Vec<Run<S>>,
     met: &mut Runs<S>,
-) -> Result<(), NoMemory> {
-    if in_cut(alloc, cuts, run.last())? {
-        met.push(run)?;
-    } else {
-        open.push(run)?;
+) -> Result<(), NoMemory>
+    requires cuts { AreCuts semantics.now cuts.now }
+    requires states { All (EndsInState semantics.now) (runs_of runs.items) }
+    ensures outside { IfOk result (λ _. Adds (EndsIn (runs_of runs.items) (λ t. ¬ InCut semantics.now.cons cuts.now t)) (runs_of outside.old.items) (runs_of outside.new.items)) }
+    ensures met { IfOk result (λ _. Adds (EndsIn (runs_of runs.items) (InCut semantics.now.cons cuts.now)) (runs_of met.old) (runs_of met.new)) }
+{
+    for run in runs {
+        if in_cut(alloc, semantics, cuts, run.last())? {
+            met.push(run)?;
+        } else {
+            outside.push(run)?;
+        }
     }
     Ok(())
 }

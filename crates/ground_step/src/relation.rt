@@ -1,7 +1,17 @@
 // The relation that the points denote.
+ghost use Rattle.std.specs.Prelude.{◌≡◌, ◌≢◌, ◌<◌, [], All, IfOk, MatchOption, Some, length, map, slice_get};
+ghost use Rattle.sort_term.specs.Tree.{value};
+ghost use Rattle.sort_term.specs.Step.{IsState};
+ghost use Rattle.sort_term.specs.Fits.{IsPointOf};
+ghost use Rattle.sort_term.specs.Relation.{Related};
+ghost use Rattle.sort_term.specs.System.{System};
+ghost use Rattle.ground_step.specs.Binds.{Narrows};
+ghost use Rattle.ground_step.specs.Ready.{IsReady};
+ghost use Rattle.ground_step.specs.Fit.{AreOf, Determines, DeterminesAll, IsFirstFit, IsValueBound, ReadsWithin, RelationIs, some_plain};
+
 use crate::binds::{Binds, bind, unbound};
-use crate::evaluation::{all_hold, evaluate};
-use data_value::{Valuation, Value, copy_value};
+use crate::evaluation::{all_hold, evaluate, plain_value};
+use data_value::{Valuation, Value};
 use no_memory::NoMemory;
 use sort_term::{Config, Left, Point, Problem, Right, RuleExpr, State, Term, same_term};
 use sqlite_items::Items;
@@ -22,9 +32,13 @@ pub fn related(
     problem: &Problem,
     left: &State<Left>,
     right: &State<Right>,
-) -> Result<Option<Fit>, NoMemory> {
-    for (place, point) in problem.points.points.as_slice().iter().enumerate() {
-        if let Some(values) = relates(alloc, point, left.term(), right.term())? {
+) -> Result<Option<Fit>, NoMemory>
+    requires left { IsState problem.now.left left.now.term }
+    requires right { IsState problem.now.right right.now.term }
+    ensures { IfOk result (λ fit. MatchOption fit (¬ Related problem.now.points.points left.now.term right.now.term) (IsFirstFit problem.now.points.points left.now.term right.now.term)) }
+{
+    for place in 0..problem.points.points.len() {
+        if let Some(values) = relates(alloc, problem, place, left.term(), right.term())? {
             return Ok(Some(Fit {
                 point: place,
                 values,
@@ -38,20 +52,34 @@ pub fn related(
 // the trees determine it.
 fn relates(
     alloc: Global,
-    point: &Point,
+    problem: &Problem,
+    place: usize,
     left: &Term<Value>,
     right: &Term<Value>,
-) -> Result<Option<Valuation>, NoMemory> {
+) -> Result<Option<Valuation>, NoMemory>
+    requires there { place < length problem.now.points.points }
+    requires left { IsState problem.now.left left.now }
+    requires right { IsState problem.now.right right.now }
+    ensures { IfOk result (λ values. RelationIs problem.now.points.points place left.now right.now values) }
+{
+    let point = &problem.points.points.as_slice()[place];
     let mut binds = unbound(alloc, point.vars.len())?;
-    if !determine(alloc, &point.left, left, &mut binds)?
-        || !determine(alloc, &point.right, right, &mut binds)?
-        || !gives(alloc, &point.left, &binds, left)?
-        || !gives(alloc, &point.right, &binds, right)?
-        || !all_hold(alloc, point.whens.as_slice(), &binds)?
-    {
+    if !determine(alloc, &point.left, left, &mut binds)? {
         return Ok(None);
     }
-    valuation(alloc, &binds)
+    if !determine(alloc, &point.right, right, &mut binds)? {
+        return Ok(None);
+    }
+    if !gives(alloc, &point.left, &binds, left)? {
+        return Ok(None);
+    }
+    if !gives(alloc, &point.right, &binds, right)? {
+        return Ok(None);
+    }
+    if !all_hold(alloc, point.whens.as_slice(), &binds)? {
+        return Ok(None);
+    }
+    Ok(Some(valuation(alloc, &binds)?))
 }
 
 // Binds the variables that stand directly below the constructors of a term; false where the tree has other constructors, or a
@@ -62,17 +90,24 @@ fn determine(
     term: &RuleExpr,
     tree: &Term<Value>,
     binds: &mut Binds,
-) -> Result<bool, NoMemory> {
-    match (term, tree) {
-        (RuleExpr::Var(variable), _) => bind(alloc, binds, *variable, tree),
-        (RuleExpr::Con(con, terms), Term::Con(found, trees)) => {
-            if con != found {
-                return Ok(false);
+) -> Result<bool, NoMemory>
+    requires { ReadsWithin (length binds.old) term.now }
+    ensures { IfOk result (λ ok. Determines binds.old binds.new ok term.now tree.now) }
+{
+    match term {
+        RuleExpr::Var(variable) => bind(alloc, binds, *variable, tree),
+        RuleExpr::Lit(_) => Ok(true),
+        RuleExpr::Op(..) => Ok(true),
+        RuleExpr::Con(con, terms) => match tree {
+            Term::Con(found, trees) => {
+                if con.0 == found.0 {
+                    determine_all(alloc, terms.as_slice(), trees.as_slice(), binds)
+                } else {
+                    Ok(false)
+                }
             }
-            determine_all(alloc, terms.as_slice(), trees.as_slice(), binds)
-        }
-        (RuleExpr::Con(..), Term::Plain(_)) => Ok(false),
-        _ => Ok(true),
+            Term::Plain(_) => Ok(false),
+        },
     }
 }
 
@@ -82,7 +117,10 @@ fn determine_all(
     terms: &[RuleExpr],
     trees: &[Term<Value>],
     binds: &mut Binds,
-) -> Result<bool, NoMemory> {
+) -> Result<bool, NoMemory>
+    requires { All (ReadsWithin (length binds.old)) terms.now }
+    ensures { IfOk result (λ ok. DeterminesAll binds.old binds.new ok terms.now trees.now) }
+{
     if terms.len() != trees.len() {
         return Ok(false);
     }
@@ -100,35 +138,45 @@ fn gives(
     term: &RuleExpr,
     binds: &Binds,
     tree: &Term<Value>,
-) -> Result<bool, NoMemory> {
-    match evaluate(alloc, term, binds)? {
-        Some(value) => Ok(same_term(&value, tree)),
-        None => Ok(false),
-    }
+) -> Result<bool, NoMemory>
+    requires { IsReady binds.now term.now }
+    ensures { IfOk result (λ ok. Narrows binds.now binds.now ok (λ v. value v term.now ≡ tree.now)) }
+{
+    let found = evaluate(alloc, term, binds)?;
+    Ok(same_term(&found, tree))
 }
 
 // The values of the variables, where each is bound to one.
-fn valuation(alloc: Global, binds: &Binds) -> Result<Option<Valuation>, NoMemory> {
+fn valuation(alloc: Global, binds: &Binds) -> Result<Valuation, NoMemory>
+    requires { All IsValueBound binds.now }
+    ensures { IfOk result (λ values. map some_plain values ≡ binds.now) }
+{
     let mut values = Items::new(alloc);
     for bound in binds.as_slice() {
         match bound {
-            Some(Term::Plain(value)) => values.push(copy_value(alloc, value)?)?,
-            _ => return Ok(None),
+            Some(tree) => {
+                let value = plain_value(alloc, tree)?;
+                values.push(value)?;
+            }
+            None => unreachable!(),
         }
     }
-    Ok(Some(values))
+    Ok(values)
 }
 
-/// The two states of a point without variables.
+/// The two states of a point without variables; None where it has some.
 pub fn point_states(
     alloc: Global,
     point: &Point,
-) -> Result<Option<(State<Left>, State<Right>)>, NoMemory> {
+) -> Result<Option<(State<Left>, State<Right>)>, NoMemory>
+    requires { (l : System) × (r : System) × IsPointOf l r point.now }
+    ensures { IfOk result (λ states. MatchOption states (point.now.vars ≢ []) (AreOf point.now)) }
+{
+    if !point.vars.is_empty() {
+        return Ok(None);
+    }
     let none = Items::new(alloc);
     let left = evaluate(alloc, &point.left, &none)?;
     let right = evaluate(alloc, &point.right, &none)?;
-    match (left, right) {
-        (Some(left), Some(right)) => Ok(Some((Config::new(left), Config::new(right)))),
-        _ => Ok(None),
-    }
+    Ok(Some((Config::new(left), Config::new(right))))
 }

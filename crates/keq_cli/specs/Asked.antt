@@ -1,4 +1,5 @@
 -- What a parsed command asks for.
+use Rattle.std.specs.Prelude.{◌≤◌}
 use Rattle.keq_cli.specs.Words.{Names, Command as Asked, Check as Checks}
 use Rattle.keq_cli.specs.declared.words.Command.{Command}
 use Rattle.keq_cli.specs.declared.words.Command.TheVariants.{Check}
@@ -11,3 +12,7 @@ names_view c = record { left_semantics = c.left_semantics.now; right_semantics =
 -- what a command asks for
 abbrev pub command_view : Command → Asked
 command_view (Check c) = Checks (names_view c) c.steps
+
+-- a command has room for a step
+abbrev pub HasSteps : Command → Type 0
+HasSteps (Check c) = 1 ≤ c.steps

@@ -1,5 +1,5 @@
 // Fetches the five texts of a check, and has them judged.
-ghost use Rattle.std.specs.Prelude.{◌≡◌, ◌≢◌, IfOk, IfSome, IsErrOf, IsTrue};
+ghost use Rattle.std.specs.Prelude.{◌≡◌, ◌≢◌, ◌≤◌, IfOk, IfSome, IsErrOf, IsTrue};
 ghost use Rattle.keq_cli.specs.Outside.{HasFetchCause};
 ghost use Rattle.keq_cli.specs.Asked.{names_view};
 ghost use Rattle.keq_cli.specs.Reports.{IsReport};
@@ -17,6 +17,7 @@ const MOST: usize = 1_048_577;
 
 /// Fetches the named texts and judges them.
 pub fn run_check<F: Shelf>(alloc: Global, check: &Check<'_>, shelf: &mut F) -> Result<Ended, Fetch>
+    requires { 1 ≤ check.now.steps }
     ensures report { IfOk result (λ ended. IsReport ended.status ended.report.items) }
     ensures check { IfOk result (λ ended. ended.status ≢ Status.Usage) }
     ensures held { IfOk result (λ _. IfSome (F.holds shelf.old) (λ files. HoldsAll files (names_view check.now))) }

@@ -1,12 +1,12 @@
 // Loads five texts and judges what they say.
-ghost use Rattle.std.specs.Prelude.{◌≢◌, IfOk};
+ghost use Rattle.std.specs.Prelude.{◌≢◌, ◌≤◌, IfOk};
 ghost use Rattle.keq_cli.specs.Reports.{IsReport};
 ghost use Rattle.sort_term.specs.Rules.{IsSemantics};
 ghost use Rattle.sort_term.specs.Fits.{IsProgram, AreCuts, ArePoints};
 
-use crate::equivalence::is_equivalent;
 use crate::texts::{Role, Texts};
 use crate::{NoMemory, Status};
+use ground_judge::{are_ground, is_equivalent};
 use program_text::load_program;
 use rule_text::LoadError;
 use semantics_load::load;
@@ -23,11 +23,12 @@ pub struct Ended {
 
 /// Loads the texts in the order of the words and judges the points, by runs of at most so many steps.
 pub fn judge(alloc: Global, texts: &Texts, steps: u32) -> Result<Ended, NoMemory>
+    requires { 1 ≤ steps }
     ensures report { IfOk result (λ ended. IsReport ended.status ended.report.items) }
     ensures check { IfOk result (λ ended. ended.status ≢ Status.Usage) }
 {
     match load_all(alloc, texts) {
-        Ok(problem) => judged(alloc, is_equivalent(alloc, &problem, steps)?),
+        Ok(problem) => judged(alloc, &problem, steps),
         Err(Unloaded::Unread(role)) => unread(alloc, role),
         Err(Unloaded::NoMemory) => Err(NoMemory),
     }
@@ -115,8 +116,19 @@ fn why(role: Role, error: LoadError) -> Unloaded {
     }
 }
 
-// The report of the verdict.
-fn judged(alloc: Global, is_equivalent: bool) -> Result<Ended, NoMemory>
+// The report of the verdict. Points with variables or conditions are not in the first form, so such a text is not read.
+fn judged(alloc: Global, problem: &Problem, steps: u32) -> Result<Ended, NoMemory>
+    requires { 1 ≤ steps }
+    ensures report { IfOk result (λ ended. IsReport ended.status ended.report.items) }
+    ensures check { IfOk result (λ ended. ended.status ≢ Status.Usage) }
+{
+    if !are_ground(problem.points.points.as_slice()) {
+        return unread(alloc, Role::Points);
+    }
+    report(alloc, is_equivalent(alloc, problem, steps)?)
+}
+
+fn report(alloc: Global, is_equivalent: bool) -> Result<Ended, NoMemory>
     ensures report { IfOk result (λ ended. IsReport ended.status ended.report.items) }
     ensures check { IfOk result (λ ended. ended.status ≢ Status.Usage) }
 {

@@ -2,7 +2,6 @@
 #![tactic(auto)]
 
 mod check;
-mod equivalence;
 mod judge;
 mod memory_shelf;
 mod memory_sink;

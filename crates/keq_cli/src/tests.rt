@@ -184,3 +184,91 @@ fn texts(rt: HostRuntime) -> Result<(), Fail> {
     }
     Ok(())
 }
+
+// States `(A n)`.
+const STATES: &[u8] = b"(sort S)(con A ((bits 8)) S)(config S)";
+
+const ONE: &[u8] = b"(rule a (vars) (A 0) => (A 1))";
+
+const FORK: &[u8] = b"(rule a (vars) (A 0) => (A 1))(rule b (vars) (A 0) => (A 2))";
+
+const TWO: &[u8] = b"(rule a (vars) (A 0) => (A 1))(rule b (vars) (A 1) => (A 2))";
+
+// All states, or those with the number 0 or 2.
+const ALL: &[u8] = b"(cut left a (vars (n (bits 8))) (A n))(cut right a (vars (n (bits 8))) (A n))";
+
+const EVEN: &[u8] = b"(cut left a (vars) (A 0))(cut left b (vars) (A 2))
+(cut right a (vars) (A 0))(cut right b (vars) (A 2))";
+
+const LEFT_ALL: &[u8] = b"(cut left a (vars (n (bits 8))) (A n))
+(cut right a (vars) (A 0))(cut right b (vars) (A 2))";
+
+fn joined(alloc: Global, front: &[u8], back: &[u8]) -> Result<Items<u8>, NoMemory> {
+    let mut text = Vec::from_slice(alloc, front)?;
+    text.extend_from_slice(back)?;
+    Ok(Items::from_vec(text))
+}
+
+fn named_text(alloc: Global, name: &str, front: &[u8], back: &[u8]) -> Result<NamedText, NoMemory> {
+    Ok(NamedText {
+        name: named(alloc, name)?,
+        bytes: joined(alloc, front, back)?,
+    })
+}
+
+fn machines(
+    alloc: Global,
+    left: &[u8],
+    right: &[u8],
+    cuts: &[u8],
+    points: &[u8],
+) -> Result<Files, NoMemory> {
+    let mut all = Items::new(alloc);
+    all.push(named_text(alloc, "ls", STATES, left)?)?;
+    all.push(named_text(alloc, "rs", STATES, right)?)?;
+    all.push(named_text(alloc, "lp", b"", b"")?)?;
+    all.push(named_text(alloc, "rp", b"", b"")?)?;
+    all.push(named_text(alloc, "pts", cuts, points)?)?;
+    Ok(all)
+}
+
+// Each row has the rules of both sides, the cuts, the points, the words, and whether the points denote a grounded
+// cut-bisimulation.
+#[test]
+fn verdicts(rt: HostRuntime) -> Result<(), Fail> {
+    let alloc = rt.alloc();
+    let p01: &[u8] = b"(point p (vars) (A 0) (A 0))(point q (vars) (A 1) (A 1))";
+    let p10: &[u8] = b"(point q (vars) (A 1) (A 1))(point p (vars) (A 0) (A 0))";
+    let p02: &[u8] = b"(point p (vars) (A 0) (A 0))(point q (vars) (A 2) (A 2))";
+    let p011: &[u8] =
+        b"(point p (vars) (A 0) (A 0))(point q (vars) (A 1) (A 1))(point r (vars) (A 1) (A 1))";
+    let p012: &[u8] =
+        b"(point p (vars) (A 0) (A 0))(point q (vars) (A 1) (A 1))(point r (vars) (A 2) (A 2))";
+    let rows: [(&[u8], &[u8], &[u8], &[u8], &str, bool); 14] = [
+        // (A 1) is related and has no step, which is no fault.
+        (ONE, ONE, ALL, p01, "check ls rs lp rp pts 1", true),
+        (ONE, ONE, ALL, p10, "check ls rs lp rp pts 10000", true),
+        (ONE, ONE, ALL, p011, "check ls rs lp rp pts 1", true),
+        // Two rules at once, of which only the second leads to a state without a partner.
+        (FORK, ONE, ALL, p01, "check ls rs lp rp pts 1", false),
+        (ONE, FORK, ALL, p01, "check ls rs lp rp pts 1", false),
+        (ONE, FORK, ALL, p10, "check ls rs lp rp pts 1", false),
+        (FORK, FORK, ALL, p012, "check ls rs lp rp pts 1", true),
+        // The first state of the cut counts, here (A 1) on the left, and (A 2) on the right.
+        (TWO, TWO, LEFT_ALL, p02, "check ls rs lp rp pts 9", false),
+        (TWO, TWO, EVEN, p02, "check ls rs lp rp pts 2", true),
+        (TWO, TWO, EVEN, p02, "check ls rs lp rp pts 10000", true),
+        (TWO, TWO, EVEN, p02, "check ls rs lp rp pts 1", false),
+        // The run stops outside the cut.
+        (ONE, ONE, EVEN, p02, "check ls rs lp rp pts 9", false),
+        (FORK, FORK, EVEN, p02, "check ls rs lp rp pts 9", false),
+        // (A 1) lies outside the cut.
+        (b"", b"", EVEN, p01, "check ls rs lp rp pts 9", false),
+    ];
+    for (left, right, cuts, points, line, equivalent) in rows {
+        let files = machines(alloc, left, right, cuts, points)?;
+        let (ended, _out) = called(alloc, line, files, &[], 99)?;
+        assert_eq!(rt; ended == Equivalent, equivalent, "{line}");
+    }
+    Ok(())
+}

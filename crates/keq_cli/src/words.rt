@@ -1,8 +1,8 @@
 // The words of a command line.
-ghost use Rattle.std.specs.Prelude.{◌≡◌};
+ghost use Rattle.std.specs.Prelude.{◌≡◌, ◌≤◌, IfSome};
 ghost use Rattle.std.specs.Option.{option_map};
 ghost use Rattle.keq_cli.specs.Words.{asked, steps_of};
-ghost use Rattle.keq_cli.specs.Asked.{command_view};
+ghost use Rattle.keq_cli.specs.Asked.{HasSteps, command_view};
 
 /// What the words of a command line ask for.
 #[derive(Clone, Copy, Debug)]
@@ -25,7 +25,8 @@ pub struct Check<'a> {
 
 /// What the words ask for; None where they have none of the forms. It takes no memory.
 pub fn parse_words<'a>(words: &'a [String]) -> Option<Command<'a>>
-    ensures { option_map command_view result ≡ asked words.now }
+    ensures asked { option_map command_view result ≡ asked words.now }
+    ensures steps { IfSome result HasSteps }
 {
     match words {
         [verb, ls, rs, lp, rp, pts, steps] if verb.as_str() == "check" => {
@@ -44,7 +45,8 @@ pub fn parse_words<'a>(words: &'a [String]) -> Option<Command<'a>>
 
 // The number of one to five decimal digits, from 1 to 10,000. `parse` alone would take a plus in front.
 fn parse_steps(word: &str) -> Option<u32>
-    ensures { result ≡ steps_of word.now }
+    ensures value { result ≡ steps_of word.now }
+    ensures some { IfSome result (λ steps. 1 ≤ steps) }
 {
     if word.len() > 5 || word.starts_with('+') {
         return None;

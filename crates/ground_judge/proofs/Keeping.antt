@@ -1,0 +1,58 @@
+-- What the lists of runs from a state tell of it.
+use Rattle.std.proofs.Common.{◌≡◌, ◌≢◌, ℕ, ◌≤◌, List, [], ◌∷◌, length, refl, sym, ap, subst, inl, inr, All}
+use Rattle.std.proofs.lemmas.List.Elements.{All-head, All-weaker}
+use Rattle.sort_term.specs.declared.points.Cut.{Cut}
+use Rattle.sort_term.specs.System.{System}
+use Rattle.sort_term.specs.Tree.{Tree}
+use Rattle.sort_term.specs.Rules.{IsSemantics}
+use Rattle.sort_term.specs.Step.{Tables, StepsBy, IsState}
+use Rattle.sort_term.specs.Cuts.{InCut}
+use Rattle.sort_term.specs.Runs.{reached, IsMet, IsLong, IsHalted}
+use Rattle.sort_term.proofs.RunLemmas.{met_short}
+use Rattle.ground_step.specs.Reach.{Path, From, AreExactly, MetFrom, LongFrom, HaltedFrom, EndsInState, runs_of}
+use Rattle.ground_step.specs.declared.run.Run.{Run}
+use Rattle.ground_step.proofs.States.{run_state}
+use Rattle.ground_step.proofs.Exactly.{exactly_same, contains_nil}
+use Rattle.ground_judge.specs.Found.{AreMet, Escapes}
+use Rattle.ground_judge.proofs.TreeCode.{tree_code}
+use Rattle.ground_judge.proofs.Meets.{always_meets}
+
+some_item : {X : Type 0} (P : X → Type 0) (xs : List X) → xs ≢ [] → All P xs → (x : X) × P x
+some_item P [] d a = absurd (d refl)
+some_item P (x ∷ xs) d a = (x, All-head P x xs a)
+
+-- a list of runs is empty where the list of their values is
+pub no_runs : {S : Type 0} (xs : List (Run S)) → runs_of xs ≡ [] → xs ≡ []
+no_runs [] e = refl
+no_runs (x ∷ xs) e = let l : length (runs_of (x ∷ xs)) ≡ 0 = ap length e in absurd (cc)
+
+module _ {S : Type 0} (sys : System) (tables : Tables) (cuts : List (Cut S)) (s : Tree) (n : ℕ) where
+  pub long_escapes : (runs : List Path) → runs ≢ [] → AreExactly (LongFrom sys tables cuts s n) runs → Escapes (StepsBy sys tables) (InCut sys.cons cuts) n s
+  long_escapes runs d e = let r = some_item (LongFrom sys tables cuts s n) runs d e.sound in inl (r.0.1, r.1.1)
+
+  pub halted_escapes : (runs : List Path) → runs ≢ [] → AreExactly (HaltedFrom sys tables cuts s n) runs → Escapes (StepsBy sys tables) (InCut sys.cons cuts) n s
+  halted_escapes runs d e = let r = some_item (HaltedFrom sys tables cuts s n) runs d e.sound in inr (r.0.1, r.1.1.0)
+
+  pub are_met : (met : List Path) → AreExactly (MetFrom sys tables cuts s n) met → AreExactly (LongFrom sys tables cuts s n) [] → AreExactly (HaltedFrom sys tables cuts s n) [] → AreMet (StepsBy sys tables) (InCut sys.cons cuts) n s met
+  are_met met m l h = record { meets = always_meets Steps In s tree_code n met no_long no_halted all; exactly = all }
+    where
+      Steps : ℕ → Tree → Tree → Type 0
+      Steps = StepsBy sys tables
+
+      In : Tree → Type 0
+      In = InCut sys.cons cuts
+
+      no_long : (run : List (ℕ × Tree)) → ¬ IsLong Steps In n s run
+      no_long run is = contains_nil (s, run) (l.complete (s, run) (refl, is))
+
+      no_halted : (run : List (ℕ × Tree)) → IsHalted Steps In s run → length run ≤ n → ⊥
+      no_halted run is short = contains_nil (s, run) (h.complete (s, run) (refl, (is, short)))
+
+      all : AreExactly (From s (IsMet Steps In s)) met
+      all =
+          exactly_same (MetFrom sys tables cuts s n) (From s (IsMet Steps In s)) met (λ p. (λ x. (x.0, x.1.0), λ x. (x.0, (x.1, met_short Steps In s n p.1 no_long x.1)))) m
+
+-- the met runs from a state end in states
+pub met_states : {S : Type 0} (sys : System) (tables : Tables) (cuts : List (Cut S)) (s : Tree) (n : ℕ) (met : List Path) → IsSemantics sys → IsState sys s → AreMet (StepsBy sys tables) (InCut sys.cons cuts) n s met → All (EndsInState sys) met
+met_states sys tables cuts s n met lawful state k =
+    All-weaker (From s (IsMet (StepsBy sys tables) (InCut sys.cons cuts) s)) (EndsInState sys) (λ p h. subst (λ t. IsState sys (reached t p.1)) (sym h.0) (run_state sys tables lawful s p.1 state h.1.runs)) met k.exactly.sound

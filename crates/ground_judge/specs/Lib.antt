@@ -1,0 +1,5 @@
+pub mod Ground
+pub mod Meeting
+pub mod Grounded
+pub mod GroundLaws
+pub mod Found

@@ -1,0 +1,17 @@
+pub mod Lists
+pub mod Bound
+pub mod Within
+pub mod Sorting
+pub mod Evaluated
+pub mod Standing
+pub mod Knowing
+pub mod Instances
+pub mod Cutting
+pub mod Listing
+pub mod Exactly
+pub mod Levels
+pub mod States
+pub mod Ahead
+pub mod Growing
+pub mod Determined
+pub mod Pairs

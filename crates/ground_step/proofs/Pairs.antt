@@ -1,0 +1,222 @@
+-- A point and a pair of states: what the walks over its terms say of the relation.
+use Rattle.std.proofs.Common.{rules, arith, ◌≡◌, ℕ, zero, suc, ◌+◌, ◌<◌, ◌≤◌, Bool, true, false, ◌||◌, IsTrue, List, [], ◌∷◌, ◌++◌, length, map, take, get_or, slice_get, Option, Some, None, IsSome, All, refl, sym, ap, ◌∙◌, subst, ◌⊎◌, inl, inr}
+use Rattle.std.specs.Prelude.{replicate}
+use Rattle.std.proofs.lemmas.Bool.{cases_lt}
+use Rattle.std.proofs.lemmas.List.{length-replicate, map-append, take_more}
+use Rattle.std.proofs.lemmas.List.Elements.{All-head, All-tail}
+use Rattle.std.proofs.lemmas.Option.{slice_get_within, get_or_from_slice_get}
+use Rattle.data_value.specs.declared.DataSort.{DataSort}
+use Rattle.data_value.specs.declared.Value.{Value}
+use Rattle.sort_term.specs.declared.ids.ConId.{ConId}
+use Rattle.sort_term.specs.declared.term.Sort.{Sort}
+use Rattle.sort_term.specs.declared.term.Sort.TheVariants.{Own, Plain}
+use Rattle.sort_term.specs.declared.term.Term.TheVariants as term
+use Rattle.sort_term.specs.declared.semantics.Con.{Con}
+use Rattle.sort_term.specs.declared.points.Point.{Point}
+use Rattle.sort_term.specs.declared.rule.Var.{Var}
+use Rattle.sort_term.specs.declared.rule.RuleExpr.{RuleExpr}
+use Rattle.sort_term.specs.System.{System}
+use Rattle.sort_term.specs.Tree.{Tree, Trees, plain_of, value}
+use Rattle.sort_term.specs.Sorted.{var_sort, tree_sort, expr_sort}
+use Rattle.sort_term.specs.Signature.{is_plain}
+use Rattle.sort_term.specs.Stands.{is_argument, argument_of}
+use Rattle.sort_term.specs.Step.{IsState}
+use Rattle.sort_term.specs.Cuts.{AllTrue}
+use Rattle.sort_term.specs.Fits.{IsPointOf}
+use Rattle.sort_term.specs.Relation.{Relates, Related}
+use Rattle.sort_term.proofs.Agreeing.{fits_long}
+use Rattle.sort_term.proofs.Equations.{tree_sort-Plain, tree_sort-Con, plain_of-Plain}
+use Rattle.sort_term.proofs.Induction.{term_ind}
+use Rattle.ground_step.specs.Binds.{Bound, Agrees, Narrows}
+use Rattle.ground_step.specs.Ready.{IsKnown, IsReady}
+use Rattle.ground_step.specs.Fit.{ReadsWithin, Determines, IsValueBound, some_plain, plain_trees, IsOnlyFit, RelationIs}
+use Rattle.ground_step.proofs.Bound.{agrees_none, agrees_at, agrees_long}
+use Rattle.ground_step.proofs.Sorting.{con_parts}
+use Rattle.ground_step.proofs.Standing.{declares, fits_each}
+use Rattle.ground_step.proofs.Determined.{stays_known}
+
+or_right : (a b : Bool) → IsTrue b → IsTrue (a || b)
+or_right true b h = refl
+or_right false b h = h
+
+either_true : (a b : Bool) → IsTrue (a || b) → IsTrue a ⊎ IsTrue b
+either_true true b h = inl refl
+either_true false b h = inr h
+
+-- a tree of a sort of data is a value, and of that sort whatever the constructors
+module _ (cons : List Con) where
+  abbrev IsValueTree : Tree → Type 0
+  IsValueTree t = (d : DataSort) → tree_sort cons t ≡ Some (Plain d) → (x : Value) × (t ≡ term.Plain x)
+
+  value_con : (k : ConId) (ts : Trees) → IsValueTree (term.Con k ts)
+  value_con k ts d h =
+      let p = con_parts (slice_get cons k.0) (map (tree_sort cons) ts) (Plain d) (sym (tree_sort-Con cons k ts) ∙ h) in
+      let e : Own p.con.sort ≡ Plain d = p.makes in
+      absurd (cc)
+
+  value_tree : (t : Tree) → IsValueTree t
+  value_tree = term_ind Value IsValueTree (λ x d h. (x, refl)) (λ k ts e. value_con k ts)
+
+  any_cons : (other : List Con) (t : Tree) (d : DataSort) → tree_sort cons t ≡ Some (Plain d) → tree_sort other t ≡ Some (Plain d)
+  any_cons other t d h =
+      let x = value_tree t d h in
+      ap (tree_sort other) x.1 ∙ tree_sort-Plain other x.0 ∙ sym (tree_sort-Plain cons x.0) ∙ sym (ap (tree_sort cons) x.1) ∙ h
+
+-- the sort of a variable of a point is one of data
+plain_is : (s : Sort) → IsTrue (is_plain s) → (d : DataSort) × (s ≡ Plain d)
+plain_is (Own a) h = absurd (cc)
+plain_is (Plain d) h = (d, refl)
+
+var_plain : (vars : List Var) (i : ℕ) → All (λ x. IsTrue (is_plain x.sort)) vars → i < length vars → (d : DataSort) × (var_sort vars i ≡ Some (Plain d))
+var_plain [] i a l = absurd (omega arith)
+var_plain (x ∷ vars) zero a l = let p = plain_is x.sort (All-head (λ y. IsTrue (is_plain y.sort)) x vars a) in (p.0, ap Some p.1)
+var_plain (x ∷ vars) (suc i) a l = var_plain vars i (All-tail (λ y. IsTrue (is_plain y.sort)) x vars a) (omega arith)
+
+agrees_self : (values : List Value) → Agrees (map some_plain values) (plain_trees values)
+agrees_self [] = tt
+agrees_self (x ∷ values) = (refl, agrees_self values)
+
+agrees_only : (values : List Value) (v : Trees) → Agrees (map some_plain values) v → v ≡ plain_trees values
+agrees_only [] [] a = refl
+agrees_only [] (t ∷ v) a = absurd a
+agrees_only (x ∷ values) [] a = absurd a
+agrees_only (x ∷ values) (t ∷ v) a =
+    let e : term.Plain x ≡ t = a.0 in
+    let f : v ≡ plain_trees values = agrees_only values v a.1 in
+    cc
+
+-- an expression over no variables is ready
+pub ready_alone : (cons : List Con) (vars : List Var) (e : RuleExpr) (s : Sort) (bs : Bound) → expr_sort cons vars e ≡ Some s → vars ≡ [] → IsReady bs e
+ready_alone cons vars e s bs h none =
+    let some : IsSome (expr_sort cons vars e) = subst IsSome (sym h) (search rules) in
+    record { cons = cons; vars = vars; sorted = some; known = λ i r. absurd (let l = declares cons vars e some i r in let z : length vars ≡ 0 = ap length none in omega arith) }
+
+module _ (l r : System) (p : Point) (a b : Tree) (checked : IsPointOf l r p) (sa : IsState l a) (sb : IsState r b) where
+  left_sorted : IsSome (expr_sort l.cons p.vars p.left)
+  left_sorted = subst IsSome (sym checked.left_term.is) (search rules)
+
+  right_sorted : IsSome (expr_sort r.cons p.vars p.right)
+  right_sorted = subst IsSome (sym checked.right_term.is) (search rules)
+
+  abbrev None_bound : Bound
+  None_bound = replicate (length p.vars) None
+
+  pub left_within : (bs : Bound) → length bs ≡ length p.vars → ReadsWithin (length bs) p.left
+  left_within bs e = record { below = λ i h. subst (λ n. i < n) (sym e) (declares l.cons p.vars p.left left_sorted i h) }
+
+  pub right_within : (bs : Bound) → length bs ≡ length p.vars → ReadsWithin (length bs) p.right
+  right_within bs e = record { below = λ i h. subst (λ n. i < n) (sym e) (declares r.cons p.vars p.right right_sorted i h) }
+
+  starts : (v : Trees) → Relates p v a b → Agrees None_bound v
+  starts v x = subst (λ n. Agrees (replicate n None) v) (fits_long [] p.vars v x.holds.fits) (agrees_none v)
+
+  pub left_apart : (mid : Bound) → Determines None_bound mid false p.left a → (v : Trees) → ¬ Relates p v a b
+  left_apart mid d v x = let h : false ≡ true = (d.complete v (starts v x) x.left).0 in absurd (cc)
+
+  module _ (mid : Bound) (dl : Determines None_bound mid true p.left a) where
+    pub right_apart : (new : Bound) → Determines mid new false p.right b → (v : Trees) → ¬ Relates p v a b
+    right_apart new d v x = let h : false ≡ true = (d.complete v (dl.complete v (starts v x) x.left).1 x.right).0 in absurd (cc)
+
+    module _ (new : Bound) (dr : Determines mid new true p.right b) where
+      pub as_many : length new ≡ length p.vars
+      as_many = dr.keeps ∙ dl.keeps ∙ length-replicate (length p.vars) None
+
+      agrees : (v : Trees) → Relates p v a b → Agrees new v
+      agrees v x = (dr.complete v (dl.complete v (starts v x) x.left).1 x.right).1
+
+      to_any : (cons other : List Con) (i : ℕ) → i < length p.vars → IsKnown cons p.vars new i → IsKnown other p.vars new i
+      to_any cons other i m k =
+          let d = var_plain p.vars i checked.vars.sorts m in
+          record { tree = k.tree; there = k.there; sorted = any_cons cons other k.tree d.0 (k.sorted ∙ d.1) ∙ sym d.1 }
+
+      pub known : (cons : List Con) (i : ℕ) → i < length p.vars → IsKnown cons p.vars new i
+      known cons i m = go (either_true (is_argument i p.left) (is_argument i p.right) (checked.determined.each i m))
+        where
+          go : IsTrue (is_argument i p.left) ⊎ IsTrue (is_argument i p.right) → IsKnown cons p.vars new i
+          go (inl h) =
+              to_any l.cons cons i m (stays_known l.cons p.vars mid new i dr.keeps (λ v x. dr.sound v x refl) (dl.known refl l.cons p.vars (Own l.config) checked.left_term.is sa.is i (or_right (argument_of i p.left).0 (argument_of i p.left).1 h)))
+          go (inr h) = to_any r.cons cons i m (dr.known refl r.cons p.vars (Own r.config) checked.right_term.is sb.is i (or_right (argument_of i p.right).0 (argument_of i p.right).1 h))
+
+      ready : (cons : List Con) (e : RuleExpr) → IsSome (expr_sort cons p.vars e) → IsReady new e
+      ready cons e h = record { cons = cons; vars = p.vars; sorted = h; known = λ i x. known cons i (declares cons p.vars e h i x) }
+
+      pub left_ready : IsReady new p.left
+      left_ready = ready l.cons p.left left_sorted
+
+      pub right_ready : IsReady new p.right
+      right_ready = ready r.cons p.right right_sorted
+
+      pub whens_ready : All (IsReady new) p.whens
+      whens_ready k d m = ready [] (get_or p.whens k d) (subst IsSome (sym (checked.whens.sorted k d m).is) (search rules))
+
+      pub values_bound : All IsValueBound new
+      values_bound i d m =
+          let j : i < length p.vars = subst (λ n. i < n) as_many m in
+          let k = known [] i j in
+          let s = var_plain p.vars i checked.vars.sorts j in
+          let x = value_tree [] k.tree s.0 (k.sorted ∙ s.1) in
+          (x.0, get_or_from_slice_get new i (Some k.tree) d k.there ∙ ap Some x.1)
+
+      -- what a related pair has, no answer no can deny
+      pub pair_apart : (P : Trees → Type 0) → Narrows new new false P → ((v : Trees) → Relates p v a b → P v) → (v : Trees) → ¬ Relates p v a b
+      pair_apart P n h v x = let q : false ≡ true = (n.complete v (agrees v x) (h v x)).0 in absurd (cc)
+
+      pub only_fit : (values : List Value) → map some_plain values ≡ new → Narrows new new true (λ v. value v p.left ≡ a) → Narrows new new true (λ v. value v p.right ≡ b) → Narrows new new true (λ v. AllTrue v p.whens) → IsOnlyFit p a b values
+      only_fit values e nl nr nw =
+          let v = plain_trees values in
+          let g : Agrees new v = subst (λ bs. Agrees bs v) e (agrees_self values) in
+          record {
+            relates = record {
+              holds = record {
+                fits = fits_each [] p.vars v (agrees_long new v g ∙ as_many) (λ i j. let k = known [] i j in subst (λ t. tree_sort [] t ≡ var_sort p.vars i) (agrees_at new v i k.tree g k.there) k.sorted);
+                whens = (nw.sound v g refl).1;
+              };
+              left = (nl.sound v g refl).1;
+              right = (nr.sound v g refl).1;
+            };
+            only = λ w x. agrees_only values w (subst (λ bs. Agrees bs w) (sym e) (agrees w x));
+          }
+
+pub relation_none : (points : List Point) (n : ℕ) (p : Point) (a b : Tree) → slice_get points n ≡ Some p → ((v : Trees) → ¬ Relates p v a b) → RelationIs points n a b None
+relation_none points n p a b there h = record { point = p; there = there; fits = λ values e. absurd (cc); some = λ v x. absurd (h v x) }
+
+pub relation_some : (points : List Point) (n : ℕ) (p : Point) (a b : Tree) (values : List Value) → slice_get points n ≡ Some p → IsOnlyFit p a b values → RelationIs points n a b (Some values)
+relation_some points n p a b values there f = record {
+  point = p;
+  there = there;
+  fits = λ found e. let q : values ≡ found = cc in subst (IsOnlyFit p a b) q f;
+  some = λ v x. (values, refl);
+}
+
+-- none of the first points relates the pair
+pub record NoneBefore (points : List Point) (a b : Tree) (n : ℕ) : Type 0 where
+  pub none : (j : ℕ) (p : Point) (v : Trees) → j < n → slice_get points j ≡ Some p → ¬ Relates p v a b
+
+pub none_more : (points : List Point) (a b : Tree) (n : ℕ) → NoneBefore points a b n → RelationIs points n a b None → NoneBefore points a b (n + 1)
+none_more points a b n before is = record { none = λ j p v l there x. go j p v l there x (cases_lt j n) }
+  where
+    go : (j : ℕ) (p : Point) (v : Trees) → j < n + 1 → slice_get points j ≡ Some p → Relates p v a b → (j < n) ⊎ (n ≤ j) → ⊥
+    go j p v l there x (inl m) = before.none j p v m there x
+    go j p v l there x (inr m) =
+        let e : j ≡ n = omega arith in
+        let q : Some p ≡ Some is.point = sym (subst (λ k. slice_get points k ≡ Some p) e there) ∙ is.there in
+        let same : p ≡ is.point = cc in
+        let s = is.some v (subst (λ y. Relates y v a b) same x) in
+        let none : None ≡ Some s.0 = s.1 in
+        cc
+
+pub none_at_all : (points : List Point) (a b : Tree) (n : ℕ) → length points ≤ n → NoneBefore points a b n → ¬ Related points a b
+none_at_all points a b n l before x = before.none x.place x.point x.valuation (let m = slice_get_within points x.place x.point x.there in omega arith) x.there x.relates
+
+-- the value that a variable is bound to
+pub value_of_bound : (o : Option Tree) (t : Tree) → IsValueBound o → o ≡ Some t → some_plain (plain_of t) ≡ o
+value_of_bound o t v e =
+    let q : Some (term.Plain v.0) ≡ Some t = sym v.1 ∙ e in
+    let is : t ≡ term.Plain v.0 = cc in
+    ap some_plain (ap plain_of is ∙ plain_of-Plain v.0) ∙ sym v.1
+
+pub values_more : (olds news : List Value) (bs : Bound) (i : ℕ) (o : Option Tree) (x : Value) → news ≡ olds ++ x ∷ [] → map some_plain olds ≡ take i bs → some_plain x ≡ o → i < length bs → o ≡ get_or bs i o → map some_plain news ≡ take (i + 1) bs
+values_more olds news bs i o x e h s l is =
+    let pushed : map some_plain news ≡ map some_plain olds ++ some_plain x ∷ [] = ap (map some_plain) e ∙ map-append some_plain olds (x ∷ []) in
+    let at : take (i + 1) bs ≡ take i bs ++ o ∷ [] = take_more bs i o l ∙ ap (λ z. take i bs ++ z ∷ []) (sym is) in
+    cc

@@ -1,0 +1,35 @@
+-- Lists of all steps from a state.
+use Rattle.std.specs.Prelude.{◌≡◌, ℕ, ◌<◌, List, map, Option, Some, All, AllPairs}
+use Rattle.std.specs.List.{Contains}
+use Rattle.sort_term.specs.declared.semantics.Con.{Con}
+use Rattle.sort_term.specs.declared.points.Cut.{Cut}
+use Rattle.sort_term.specs.Tree.{Tree, Trees}
+use Rattle.sort_term.specs.System.{System}
+use Rattle.sort_term.specs.Step.{Tables, StepsBy}
+use Rattle.sort_term.specs.Cuts.{Covers}
+use Rattle.ground_step.specs.declared.run.RunStep.{RunStep}
+
+-- a step of a run as the number of its rule and its state
+abbrev pub step_of : {S : Type 0} → RunStep S → ℕ × Tree
+step_of x = (x.rule.0, x.state.term)
+
+abbrev pub steps_of : {S : Type 0} → List (RunStep S) → List (ℕ × Tree)
+steps_of steps = map step_of steps
+
+-- the rule with the number n takes s to o, or nowhere
+pub record StepIs (sys : System) (tables : Tables) (n : ℕ) (s : Tree) (o : Option Tree) : Type 0 where
+  pub only : (t : Tree) → StepsBy sys tables n s t → o ≡ Some t
+  pub there : (t : Tree) → o ≡ Some t → StepsBy sys tables n s t
+
+-- all steps from s, in the order of the rules
+pub record AreSteps (sys : System) (tables : Tables) (s : Tree) (steps : List (ℕ × Tree)) : Type 0 where
+  -- each is a step
+  pub sound : All (λ x. StepsBy sys tables x.0 s x.1) steps
+  -- each step is among them
+  pub complete : (n : ℕ) (t : Tree) → StepsBy sys tables n s t → Contains steps (n, t)
+  -- no rule twice, and each after those with smaller numbers
+  pub rising : AllPairs (λ x y. x.0 < y.0) steps
+
+-- an item of the cut covers s under some valuation
+abbrev pub IsCovered : {S : Type 0} → List Con → Cut S → Tree → Type 0
+IsCovered cons item s = (v : Trees) × Covers cons item v s
