@@ -20,10 +20,11 @@ abbrev pub Escapes : (ℕ → Tree → Tree → Type 0) → (Tree → Type 0) �
 Escapes Steps In n s =
     ((run : List (ℕ × Tree)) × IsLong Steps In n s run) ⊎ ((run : List (ℕ × Tree)) × IsHalted Steps In s run)
 
--- moreover s is in the cut, or it isn't
+-- moreover s is in the cut
 abbrev pub Keeps : (ℕ → Tree → Tree → Type 0) → (Tree → Type 0) → ℕ → Tree → List Path → Type 0
 Keeps Steps In n s met = In s × AreMet Steps In n s met
 
+-- s isn't in the cut, or some run from it is long or halted
 abbrev pub Strays : (ℕ → Tree → Tree → Type 0) → (Tree → Type 0) → ℕ → Tree → Type 0
 Strays Steps In n s = ¬ In s ⊎ Escapes Steps In n s
 

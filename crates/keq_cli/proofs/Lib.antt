@@ -1,2 +1,7 @@
 pub mod Steps
 pub mod Answered
+mod GroundPoints
+mod Whole
+mod Ends
+mod Unread
+mod Outcomes

@@ -5,3 +5,4 @@ pub mod Outside
 pub mod Reports
 pub mod Texts
 pub mod Memory
+pub mod Outcome

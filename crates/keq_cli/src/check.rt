@@ -2,6 +2,7 @@
 ghost use Rattle.std.specs.Prelude.{◌≡◌, ◌≢◌, ◌≤◌, IfOk, IfSome, IsErrOf, IsTrue};
 ghost use Rattle.keq_cli.specs.Outside.{HasFetchCause};
 ghost use Rattle.keq_cli.specs.Asked.{names_view};
+ghost use Rattle.keq_cli.specs.Outcome.{NamesEnd};
 ghost use Rattle.keq_cli.specs.Reports.{IsReport};
 ghost use Rattle.keq_cli.specs.declared.status.Status.{Status};
 ghost use Rattle.keq_cli.specs.Texts.{HoldsAll, AllFetched};
@@ -18,6 +19,7 @@ const MOST: usize = 1_048_577;
 /// Fetches the named texts and judges them.
 pub fn run_check<F: Shelf>(alloc: Global, check: &Check<'_>, shelf: &mut F) -> Result<Ended, Fetch>
     requires { 1 ≤ check.now.steps }
+    ensures ends { IfSome (F.holds shelf.old) (λ files. IfOk result (λ ended. NamesEnd files (names_view check.now) check.now.steps ended.status ended.report.items)) }
     ensures report { IfOk result (λ ended. IsReport ended.status ended.report.items) }
     ensures check { IfOk result (λ ended. ended.status ≢ Status.Usage) }
     ensures held { IfOk result (λ _. IfSome (F.holds shelf.old) (λ files. HoldsAll files (names_view check.now))) }

@@ -3,6 +3,7 @@
 
 mod check;
 mod judge;
+mod loading;
 mod memory_shelf;
 mod memory_sink;
 mod outside;

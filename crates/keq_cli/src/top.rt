@@ -5,9 +5,10 @@ ghost use Rattle.keq_cli.specs.Words.{asked};
 ghost use Rattle.keq_cli.specs.Status.{IsAnswer};
 ghost use Rattle.keq_cli.specs.Reports.{bad_words_line, IsReport, IsReported, IsFrontReported};
 ghost use Rattle.keq_cli.specs.Texts.{HoldsNamed};
+ghost use Rattle.keq_cli.specs.Outcome.{Tells, IsOutcomeTaken, IsOutcomeFrontTaken};
 
 use crate::check::run_check;
-use crate::words::{Command, parse_words};
+use crate::words::parse_words;
 use crate::{Failed, Fetch, Shelf, Sink, Status};
 use std::alloc::Global;
 
@@ -28,6 +29,12 @@ pub fn keq<F: Shelf, O: Sink>(alloc: Global, words: &[String], shelf: &mut F, ou
     ensures usage_front { asked words.now ≡ None → IsFrontTaken (O.taken out.old) bad_words_line (O.taken out.new) }
     ensures usage_alone { asked words.now ≡ None → shelf.new ≡ shelf.old }
     ensures usage_only { result ≡ Status.Usage → asked words.now ≡ None }
+
+    // Where the shelf tells what it holds, an answer, which is none of `ReadFault`, `WriteFault` and `NoMemory`, is the
+    // outcome: for every content of the five files the status, and exactly its report was taken. On `WriteFault` a front
+    // of such a report was taken.
+    ensures outcome { IsAnswer result → Tells (F.holds shelf.old) (asked words.now) → IsOutcomeTaken (F.holds shelf.old) (asked words.now) result (O.taken out.old) (O.taken out.new) }
+    ensures outcome_front { result ≡ Status.WriteFault → Tells (F.holds shelf.old) (asked words.now) → IsOutcomeFrontTaken (F.holds shelf.old) (asked words.now) (O.taken out.old) (O.taken out.new) }
 
     // On an answer, which is none of `ReadFault`, `WriteFault` and `NoMemory`, the sink took exactly one report of it,
     // and each named text is held.
@@ -52,7 +59,7 @@ pub fn keq<F: Shelf, O: Sink>(alloc: Global, words: &[String], shelf: &mut F, ou
     // On `NoMemory` the sink was not called.
     ensures memory_alone { result ≡ Status.NoMemory → out.new ≡ out.old }
 {
-    let Some(Command::Check(check)) = parse_words(words) else {
+    let Some(check) = parse_words(words) else {
         return put_report(out, Status::Usage, b"bad command line\n");
     };
     match run_check(alloc, &check, shelf) {

@@ -2,16 +2,9 @@
 ghost use Rattle.std.specs.Prelude.{◌≡◌, ◌≤◌, IfSome};
 ghost use Rattle.std.specs.Option.{option_map};
 ghost use Rattle.keq_cli.specs.Words.{asked, steps_of};
-ghost use Rattle.keq_cli.specs.Asked.{HasSteps, command_view};
+ghost use Rattle.keq_cli.specs.Asked.{check_view};
 
-/// What the words of a command line ask for.
-#[derive(Clone, Copy, Debug)]
-pub enum Command<'a> {
-    /// Judge five files.
-    Check(Check<'a>),
-}
-
-/// The names of the five files of a check, and its bound on runs.
+/// The words of a check: the names of its five files, and its bound on runs.
 #[derive(Clone, Copy, Debug)]
 pub struct Check<'a> {
     pub left_semantics: &'a str,
@@ -24,20 +17,20 @@ pub struct Check<'a> {
 }
 
 /// What the words ask for; None where they have none of the forms. It takes no memory.
-pub fn parse_words<'a>(words: &'a [String]) -> Option<Command<'a>>
-    ensures asked { option_map command_view result ≡ asked words.now }
-    ensures steps { IfSome result HasSteps }
+pub fn parse_words<'a>(words: &'a [String]) -> Option<Check<'a>>
+    ensures asked { option_map check_view result ≡ asked words.now }
+    ensures steps { IfSome result (λ check. 1 ≤ check.steps) }
 {
     match words {
         [verb, ls, rs, lp, rp, pts, steps] if verb.as_str() == "check" => {
-            Some(Command::Check(Check {
+            Some(Check {
                 left_semantics: ls.as_str(),
                 right_semantics: rs.as_str(),
                 left_program: lp.as_str(),
                 right_program: rp.as_str(),
                 points: pts.as_str(),
                 steps: parse_steps(steps.as_str())?,
-            }))
+            })
         }
         _ => None,
     }

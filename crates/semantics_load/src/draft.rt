@@ -1,11 +1,20 @@
 // A semantics of which some items are there. Each item may use the names of those before it alone.
-ghost use Rattle.std.specs.Prelude.{IfOk};
-ghost use Rattle.sort_term.specs.Rules.{IsSemantics};
+ghost use Rattle.std.specs.Prelude.{◌≡◌, List, map, Some, is_some, IfOk, IsErrOf};
+ghost use Rattle.std.specs.List.{AllZip};
+ghost use Rattle.rule_text.specs.declared.error.LoadError.{LoadError};
+ghost use Rattle.rule_text.specs.declared.item.Item.{Item};
+ghost use Rattle.sort_term.specs.declared.semantics.Con.{Con};
+ghost use Rattle.sort_term.specs.declared.rule.Demand.{Demand};
+ghost use Rattle.sort_term.specs.declared.rule.Rule.{Rule};
+ghost use Rattle.sort_term.specs.declared.term.Sort.{Sort};
+ghost use Rattle.sort_term.specs.System.{System};
+ghost use Rattle.name_resolution.specs.Names.{IsNew};
+ghost use Rattle.name_resolution.specs.Known.{vocabulary_of, sort_of};
+ghost use Rattle.semantics_load.specs.Declares.{Declared, Declares, IsConText, IsRuleText, IsDemandText, known_in, nothing, with_sort, with_con, with_config, with_rule};
+ghost use Rattle.semantics_load.specs.Text.{Makes};
 
-use name_resolution::{
-    Known, NameTable, Variables, check_size, declared_variables, expression, pattern,
-};
-use rule_text::{Item, LoadError, RawDemand, RawSorts, RawTree, RawVars};
+use name_resolution::{Known, NameTable, Variables, declared_variables, expression, pattern};
+use rule_text::{Item, LoadError, RawDemand, RawSort, RawTree, RawVar};
 use sexp_text::Name;
 use sort_term::{
     Con, Cons, Demand, Demands, Names, Rule, Rules, Semantics, Side, SortId, Sorts, Tables,
@@ -13,146 +22,294 @@ use sort_term::{
 };
 use sqlite_items::Items;
 use std::alloc::Global;
+use std::marker::Model;
 
-/// The items of a semantics so far.
+/// What the items so far declare.
 #[derive(Drop)]
 pub struct Draft {
     sort_names: NameTable,
-    sorts: Names,
+    sort_list: Names,
     con_names: NameTable,
-    cons: Cons,
-    rule_names: NameTable,
-    rules: Rules,
-    config: Option<SortId>,
+    con_list: Cons,
+    rule_list: Rules,
+    state_sort: Option<SortId>,
+}
+
+impl Model for Draft {
+    ghost use Rattle.std.specs.Prelude.{◌≡◌, map};
+    ghost use Rattle.semantics_load.specs.Declares.{Declared, declared_code};
+
+    ghost Value = { Declared };
+
+    ghost coded = { declared_code };
+
+    ghost view = { λ d. record { sorts = d.sort_list; cons = d.con_list; config = d.state_sort; rules = d.rule_list } };
+
+    ghost invariant = { λ d. (d.sort_names ≡ d.sort_list) × (d.con_names ≡ map (λ c. c.name) d.con_list) };
 }
 
 impl Draft {
     /// No items.
-    pub fn new(alloc: Global) -> Draft {
+    pub fn new(alloc: Global) -> Draft
+        ensures { result ≡ nothing }
+    {
         Draft {
             sort_names: NameTable::new(alloc),
-            sorts: Items::new(alloc),
+            sort_list: Items::new(alloc),
             con_names: NameTable::new(alloc),
-            cons: Items::new(alloc),
-            rule_names: NameTable::new(alloc),
-            rules: Items::new(alloc),
-            config: None,
+            con_list: Items::new(alloc),
+            rule_list: Items::new(alloc),
+            state_sort: None,
         }
     }
 
-    /// Adds the next item. It is `Unread` where it uses a name that is unknown by now, or declares one a second time.
-    pub fn add(&mut self, alloc: Global, item: &Item) -> Result<(), LoadError> {
+    /// The draft with the next item. `Unread` exactly where the item may not stand behind those before it.
+    pub fn add(self, alloc: Global, item: &Item) -> Result<Draft, LoadError>
+        ensures ok { IfOk result (Declares self item.now) }
+        ensures unread { IsErrOf result LoadError.Unread → (d : Declared) → ¬ Declares self item.now d }
+    {
         match item {
-            Item::Sort(name) => self.add_sort(alloc, name),
-            Item::Con { name, args, sort } => self.add_con(alloc, name, args, sort),
-            Item::Config(name) => self.set_config(name),
+            Item::Sort(name) => self.with_sort(alloc, name),
+            Item::Con { name, args, sort } => self.with_con(alloc, name, args.as_slice(), sort),
+            Item::Config(name) => self.with_config(name),
             Item::Rule {
                 name,
                 vars,
                 head,
                 demands,
                 outcome,
-            } => {
-                let rule = self.rule(alloc, name, vars, head, demands.as_slice(), outcome)?;
-                self.rules.push(rule)?;
-                Ok(())
-            }
+            } => self.with_rule(
+                alloc,
+                name,
+                vars.as_slice(),
+                head,
+                demands.as_slice(),
+                outcome,
+            ),
             Item::Cut { .. } | Item::Point { .. } => Err(LoadError::Unread),
         }
     }
 
-    /// The semantics, where a `config` item was there and the whole passes its checks.
+    /// The semantics that the items make. `Unread` exactly where they make none: where there was no `config` item, or the
+    /// whole doesn't pass its checks.
     pub fn finish<S: Side>(self, alloc: Global) -> Result<Semantics<S>, LoadError>
-        ensures { IfOk result IsSemantics }
+        ensures ok { IfOk result (Makes self) }
+        ensures unread { IsErrOf result LoadError.Unread → (s : System) → ¬ Makes self s }
     {
         let Draft {
             sort_names: _,
-            sorts,
+            sort_list,
             con_names: _,
-            cons,
-            rule_names: _,
-            rules,
-            config,
+            con_list,
+            rule_list,
+            state_sort,
         } = self;
-        let Some(config) = config else {
+        let Some(state_sort) = state_sort else {
             return Err(LoadError::Unread);
         };
-        checked(sorts, cons, Items::new(alloc), rules, config)
+        let tables: Tables = Items::new(alloc);
+        if !is_semantics(
+            sort_list.as_slice(),
+            con_list.as_slice(),
+            tables.as_slice(),
+            rule_list.as_slice(),
+            state_sort,
+        ) {
+            return Err(LoadError::Unread);
+        }
+        Ok(Semantics::new(sort_list, con_list, tables, rule_list, state_sort))
     }
 
-    fn known(&self) -> Known<'_> {
+    // Whether the sort of the states was told.
+    fn has_config(&self) -> bool
+        ensures { result ≡ is_some self.now.config }
+    {
+        self.state_sort.is_some()
+    }
+
+    // What the next item may name.
+    fn known(&self) -> Known<'_>
+        ensures { vocabulary_of result ≡ known_in self.now }
+    {
         Known {
             sort_names: &self.sort_names,
             con_names: &self.con_names,
-            cons: self.cons.as_slice(),
+            cons: self.con_list.as_slice(),
         }
     }
 
-    fn add_sort(&mut self, alloc: Global, name: &Name) -> Result<(), LoadError> {
-        self.sort_names.declare(alloc, name)?;
-        self.sorts.push(name.copy(alloc)?)?;
-        Ok(())
+    // One more sort, of a new name.
+    fn with_sort(self, alloc: Global, name: &Name) -> Result<Draft, LoadError>
+        ensures ok { IfOk result (Declares self (Item.Sort name.now)) }
+        ensures unread { IsErrOf result LoadError.Unread → (d : Declared) → ¬ Declares self (Item.Sort name.now) d }
+    {
+        let Draft {
+            mut sort_names,
+            mut sort_list,
+            con_names,
+            con_list,
+            rule_list,
+            state_sort,
+        } = self;
+        sort_names.declare(alloc, name)?;
+        sort_list.push(name.copy(alloc)?)?;
+        Ok(Draft {
+            sort_names,
+            sort_list,
+            con_names,
+            con_list,
+            rule_list,
+            state_sort,
+        })
     }
 
-    fn add_con(
-        &mut self,
+    // One more constructor, which an item writes.
+    fn with_con(
+        self,
         alloc: Global,
         name: &Name,
-        args: &RawSorts,
+        args: &[RawSort],
         sort: &Name,
-    ) -> Result<(), LoadError> {
-        let con = Con {
-            name: name.copy(alloc)?,
-            args: self.argument_sorts(alloc, args)?,
-            sort: self.known().declared(sort)?,
-        };
-        self.con_names.declare(alloc, name)?;
-        self.cons.push(con)?;
-        Ok(())
+    ) -> Result<Draft, LoadError>
+        ensures ok { IfOk result (Declares self (Item.Con name.now args.now sort.now)) }
+        ensures unread { IsErrOf result LoadError.Unread → (d : Declared) → ¬ Declares self (Item.Con name.now args.now sort.now) d }
+    {
+        let con = con(alloc, &self.known(), name, args, sort)?;
+        self.and_con(alloc, con)
     }
 
-    fn argument_sorts(&self, alloc: Global, raws: &RawSorts) -> Result<Sorts, LoadError> {
-        let mut sorts = Items::new(alloc);
-        for raw in raws.as_slice() {
-            sorts.push(self.known().sort(raw)?)?;
-        }
-        Ok(sorts)
+    // One more constructor, of a new name.
+    fn and_con(self, alloc: Global, con: Con) -> Result<Draft, LoadError>
+        ensures ok { IfOk result (λ d. IsNew con.name (map (λ c. c.name) self.cons) × (d ≡ with_con self con)) }
+        ensures unread { IsErrOf result LoadError.Unread → ¬ IsNew con.name (map (λ c. c.name) self.cons) }
+    {
+        let Draft {
+            sort_names,
+            sort_list,
+            mut con_names,
+            mut con_list,
+            rule_list,
+            state_sort,
+        } = self;
+        con_names.declare(alloc, &con.name)?;
+        con_list.push(con)?;
+        Ok(Draft {
+            sort_names,
+            sort_list,
+            con_names,
+            con_list,
+            rule_list,
+            state_sort,
+        })
     }
 
-    fn set_config(&mut self, name: &Name) -> Result<(), LoadError> {
-        if self.config.is_some() {
+    // The sort of the states, where it wasn't told before.
+    fn with_config(self, name: &Name) -> Result<Draft, LoadError>
+        ensures ok { IfOk result (Declares self (Item.Config name.now)) }
+        ensures unread { IsErrOf result LoadError.Unread → (d : Declared) → ¬ Declares self (Item.Config name.now) d }
+    {
+        if self.state_sort.is_some() {
             return Err(LoadError::Unread);
         }
-        self.config = Some(self.known().inhabited(name)?);
-        Ok(())
+        let Some(sort) = self.known().inhabited(name) else {
+            return Err(LoadError::Unread);
+        };
+        let mut draft = self;
+        draft.state_sort = Some(sort);
+        Ok(draft)
     }
 
-    // The rule that an item writes; its name is noted. Rules come after the `config` item.
-    fn rule(
-        &mut self,
+    // One more rule, which an item writes. Rules come behind the `config` item.
+    fn with_rule(
+        self,
         alloc: Global,
         name: &Name,
-        vars: &RawVars,
+        vars: &[RawVar],
         head: &RawTree,
         demands: &[RawDemand],
         outcome: &RawTree,
-    ) -> Result<Rule, LoadError> {
-        if self.config.is_none() {
+    ) -> Result<Draft, LoadError>
+        ensures ok { IfOk result (Declares self (Item.Rule name.now vars.now head.now demands.now outcome.now)) }
+        ensures unread { IsErrOf result LoadError.Unread → (d : Declared) → ¬ Declares self (Item.Rule name.now vars.now head.now demands.now outcome.now) d }
+    {
+        if !self.has_config() {
             return Err(LoadError::Unread);
         }
-        self.rule_names.declare(alloc, name)?;
-        let known = self.known();
-        let variables = declared_variables(alloc, &known, vars.as_slice())?;
-        check_size(head)?;
-        check_size(outcome)?;
-        Ok(Rule {
-            name: name.copy(alloc)?,
-            head: pattern(alloc, &known, &variables, head)?,
-            demands: conditions(alloc, &known, &variables, demands)?,
-            result: expression(alloc, &known, &variables, outcome)?,
-            vars: variables.into_vars(),
-        })
+        let rule = rule(alloc, &self.known(), name, vars, head, demands, outcome)?;
+        self.and_rule(rule)
     }
+
+    // One more rule.
+    fn and_rule(self, rule: Rule) -> Result<Draft, LoadError>
+        ensures ok { IfOk result (λ d. d ≡ with_rule self rule) }
+        ensures unread { IsErrOf result LoadError.Unread → ⊥ }
+    {
+        let mut draft = self;
+        draft.rule_list.push(rule)?;
+        Ok(draft)
+    }
+}
+
+// The constructor that an item writes.
+fn con(
+    alloc: Global,
+    known: &Known<'_>,
+    name: &Name,
+    args: &[RawSort],
+    sort: &Name,
+) -> Result<Con, LoadError>
+    ensures ok { IfOk result (IsConText (vocabulary_of known.now) name.now args.now sort.now) }
+    ensures unread { IsErrOf result LoadError.Unread → (c : Con) → ¬ IsConText (vocabulary_of known.now) name.now args.now sort.now c }
+{
+    let Some(sort) = known.declared(sort) else {
+        return Err(LoadError::Unread);
+    };
+    Ok(Con {
+        name: name.copy(alloc)?,
+        args: argument_sorts(alloc, known, args)?,
+        sort,
+    })
+}
+
+// The sorts of the arguments of a constructor.
+fn argument_sorts(alloc: Global, known: &Known<'_>, raws: &[RawSort]) -> Result<Sorts, LoadError>
+    ensures ok { IfOk result (λ sorts. map (sort_of (vocabulary_of known.now)) raws.now ≡ map Some sorts) }
+    ensures unread { IsErrOf result LoadError.Unread → (sorts : List Sort) → ¬ (map (sort_of (vocabulary_of known.now)) raws.now ≡ map Some sorts) }
+{
+    let mut sorts = Items::new(alloc);
+    for raw in raws {
+        let Some(sort) = known.sort(raw) else {
+            return Err(LoadError::Unread);
+        };
+        sorts.push(sort)?;
+    }
+    Ok(sorts)
+}
+
+// The rule that an item writes.
+fn rule(
+    alloc: Global,
+    known: &Known<'_>,
+    name: &Name,
+    vars: &[RawVar],
+    head: &RawTree,
+    demands: &[RawDemand],
+    outcome: &RawTree,
+) -> Result<Rule, LoadError>
+    ensures ok { IfOk result (IsRuleText (vocabulary_of known.now) name.now vars.now head.now demands.now outcome.now) }
+    ensures unread { IsErrOf result LoadError.Unread → (r : Rule) → ¬ IsRuleText (vocabulary_of known.now) name.now vars.now head.now demands.now outcome.now r }
+{
+    let variables = declared_variables(alloc, known, vars)?;
+    let head = pattern(alloc, known, &variables, head)?;
+    let demands = conditions(alloc, known, &variables, demands)?;
+    let result = expression(alloc, known, &variables, outcome)?;
+    Ok(Rule {
+        name: name.copy(alloc)?,
+        vars: variables.into_vars(),
+        head,
+        demands,
+        result,
+    })
 }
 
 // The conditions of a rule.
@@ -161,34 +318,28 @@ fn conditions(
     known: &Known<'_>,
     variables: &Variables,
     raws: &[RawDemand],
-) -> Result<Demands, LoadError> {
+) -> Result<Demands, LoadError>
+    ensures ok { IfOk result (AllZip (IsDemandText (vocabulary_of known.now) variables.now) raws.now) }
+    ensures unread { IsErrOf result LoadError.Unread → (demands : List Demand) → ¬ AllZip (IsDemandText (vocabulary_of known.now) variables.now) raws.now demands }
+{
     let mut demands = Items::new(alloc);
     for raw in raws {
-        let RawDemand::When(tree) = raw;
-        check_size(tree)?;
-        demands.push(Demand::When(expression(alloc, known, variables, tree)?))?;
+        demands.push(condition(alloc, known, variables, raw)?)?;
     }
     Ok(demands)
 }
 
-// The semantics with these parts, where they pass their checks.
-fn checked<S: Side>(
-    sorts: Names,
-    cons: Cons,
-    tables: Tables,
-    rules: Rules,
-    config: SortId,
-) -> Result<Semantics<S>, LoadError>
-    ensures { IfOk result IsSemantics }
+// A condition of a rule.
+fn condition(
+    alloc: Global,
+    known: &Known<'_>,
+    variables: &Variables,
+    raw: &RawDemand,
+) -> Result<Demand, LoadError>
+    ensures ok { IfOk result (IsDemandText (vocabulary_of known.now) variables.now raw.now) }
+    ensures unread { IsErrOf result LoadError.Unread → (d : Demand) → ¬ IsDemandText (vocabulary_of known.now) variables.now raw.now d }
 {
-    if !is_semantics(
-        sorts.as_slice(),
-        cons.as_slice(),
-        tables.as_slice(),
-        rules.as_slice(),
-        config,
-    ) {
-        return Err(LoadError::Unread);
+    match raw {
+        RawDemand::When(tree) => Ok(Demand::When(expression(alloc, known, variables, tree)?)),
     }
-    Ok(Semantics::new(sorts, cons, tables, rules, config))
 }

@@ -1,27 +1,56 @@
 //! The semantics that a text writes.
 #![tactic(auto)]
 
-ghost use Rattle.std.specs.Prelude.{IfOk};
+ghost use Rattle.std.specs.Prelude.{IfOk, IsErrOf};
+ghost use Rattle.rule_text.specs.declared.error.LoadError.{LoadError};
+ghost use Rattle.rule_text.specs.declared.item.Item.{Item};
+ghost use Rattle.rule_text.specs.Turns.{InTurn};
+ghost use Rattle.sort_term.specs.System.{System};
 ghost use Rattle.sort_term.specs.Rules.{IsSemantics};
+ghost use Rattle.semantics_load.specs.Declares.{Declared, nothing, Declares};
+ghost use Rattle.semantics_load.specs.Text.{AreItemsOf, IsSemanticsText};
 
 mod draft;
+mod laws;
 
 use draft::Draft;
-use rule_text::{FileKind, LoadError, items};
-use sexp_text::read;
+pub use laws::text_is_of_one_semantics;
+use rule_text::{FileKind, Item, LoadError, read_items};
 use sort_term::{Semantics, Side};
 use std::alloc::Global;
 
-/// Loads the text of a semantics. `Unread` where it is longer than 1,048,576 bytes, isn't in the first form of the
-/// language, breaks a rule of an item, or has no `config` item. What loads has passed all checks.
+/// Loads the text of a semantics: the answer is the semantics of which this is a text, which is the only one
+/// ([`text_is_of_one_semantics`]). `Unread` comes exactly where there is none: where the text is longer than 1,048,576
+/// bytes, isn't in the grammar, isn't in the first form of the language, breaks a rule of an item, or has no `config` item.
+/// Want of memory is the only other answer.
 pub fn load<S: Side>(alloc: Global, bytes: &[u8]) -> Result<Semantics<S>, LoadError>
-    ensures { IfOk result IsSemantics }
+    ensures ok { IfOk result (IsSemanticsText bytes.now) }
+    ensures unread { IsErrOf result LoadError.Unread → (s : System) → ¬ IsSemanticsText bytes.now s }
 {
-    let forms = read(alloc, bytes)?;
-    let items = items(alloc, FileKind::Semantics, forms.as_slice())?;
-    let mut draft = Draft::new(alloc);
-    for item in items.as_slice() {
-        draft.add(alloc, item)?;
-    }
+    let items = read_items(alloc, FileKind::Semantics, bytes)?;
+    semantics(alloc, items.as_slice())
+}
+
+// The semantics that the items make.
+fn semantics<S: Side>(alloc: Global, items: &[Item]) -> Result<Semantics<S>, LoadError>
+    ensures ok { IfOk result (AreItemsOf items.now) }
+    ensures unread { IsErrOf result LoadError.Unread → (s : System) → ¬ AreItemsOf items.now s }
+{
+    let draft = declared(alloc, items)?;
     draft.finish(alloc)
 }
+
+// What the items declare.
+fn declared(alloc: Global, items: &[Item]) -> Result<Draft, LoadError>
+    ensures ok { IfOk result (InTurn Declares nothing items.now) }
+    ensures unread { IsErrOf result LoadError.Unread → (d : Declared) → ¬ InTurn Declares nothing items.now d }
+{
+    let mut draft = Draft::new(alloc);
+    for item in items {
+        draft = draft.add(alloc, item)?;
+    }
+    Ok(draft)
+}
+
+#[cfg(test)]
+mod tests;

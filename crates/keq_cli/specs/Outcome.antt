@@ -1,0 +1,98 @@
+-- How what was asked for ends, and what is reported.
+use Rattle.std.specs.Prelude.{◌≡◌, ℕ, List, Option, None, Some, IsSome, ⊤}
+use Rattle.std.specs.FinMap.{get}
+use Rattle.sort_term.specs.declared.points.Points.{Points}
+use Rattle.sort_term.specs.declared.problem.Problem.{Problem}
+use Rattle.sort_term.specs.Step.{Tables}
+use Rattle.sort_term.specs.System.{System}
+use Rattle.sort_term.specs.Verdict.{IsVerdict, equivalent}
+use Rattle.semantics_load.specs.Text.{IsSemanticsText}
+use Rattle.program_text.specs.Text.{IsProgramText}
+use Rattle.sync_points.specs.Text.{IsPointsText}
+use Rattle.keq_cli.specs.Outside.{FileMap, IsTaken, IsFrontTaken}
+use Rattle.keq_cli.specs.Words.{Names, Command, Check}
+use Rattle.keq_cli.specs.Reports.{equivalent_line, not_equivalent_line, unread_line, bad_words_line}
+use Rattle.keq_cli.specs.declared.texts.Role.{Role}
+use Rattle.keq_cli.specs.declared.texts.Role.TheVariants.{LeftSemantics, RightSemantics, LeftProgram, RightProgram, Points as PointsRole}
+use Rattle.keq_cli.specs.declared.texts.Texts.{Texts}
+use Rattle.keq_cli.specs.declared.status.Status.{Status}
+use Rattle.keq_cli.specs.declared.status.Status.TheVariants.{Equivalent, Refused, Usage}
+
+-- the five texts of a check
+pub record FiveTexts : Type 0 where
+  pub left_semantics : List ℕ
+  pub right_semantics : List ℕ
+  pub left_program : List ℕ
+  pub right_program : List ℕ
+  pub points : List ℕ
+
+abbrev pub texts_of : Texts → FiveTexts
+texts_of t = record { left_semantics = t.left_semantics.items; right_semantics = t.right_semantics.items; left_program = t.left_program.items; right_program = t.right_program.items; points = t.points.items }
+
+-- a text that is that of no semantics, of no program of this one, of no cuts and points between these two
+abbrev pub NoSemantics : List ℕ → Type 0
+NoSemantics text = (s : System) → ¬ IsSemanticsText text s
+
+abbrev pub NoProgram : System → List ℕ → Type 0
+NoProgram s text = (p : Tables) → ¬ IsProgramText s text p
+
+abbrev pub NoPoints : System → System → List ℕ → Type 0
+NoPoints left right text = (p : Points) → ¬ IsPointsText left right text p
+
+-- the first of the texts that doesn't load, in the order semantics, programs, points, left before right
+pub data FirstUnread (t : FiveTexts) : Role → Type 0 where
+  left_semantics : NoSemantics t.left_semantics → FirstUnread t LeftSemantics
+  right_semantics : (left : System) → IsSemanticsText t.left_semantics left → NoSemantics t.right_semantics → FirstUnread t RightSemantics
+  left_program : (left right : System) → IsSemanticsText t.left_semantics left → IsSemanticsText t.right_semantics right → NoProgram left t.left_program → FirstUnread t LeftProgram
+  right_program : (left right : System) (lp : Tables) → IsSemanticsText t.left_semantics left → IsSemanticsText t.right_semantics right → IsProgramText left t.left_program lp → NoProgram right t.right_program → FirstUnread t RightProgram
+  points : (left right : System) (lp rp : Tables) → IsSemanticsText t.left_semantics left → IsSemanticsText t.right_semantics right → IsProgramText left t.left_program lp → IsProgramText right t.right_program rp → NoPoints left right t.points → FirstUnread t PointsRole
+
+-- the texts are those of a problem
+pub record AreTextsOf (t : FiveTexts) (q : Problem) : Type 0 where
+  pub left : IsSemanticsText t.left_semantics q.left
+  pub right : IsSemanticsText t.right_semantics q.right
+  pub left_program : IsProgramText q.left t.left_program q.left_program
+  pub right_program : IsProgramText q.right t.right_program q.right_program
+  pub points : IsPointsText q.left q.right t.points q.points
+
+-- how a problem is judged for a number of steps
+pub data IsJudged (q : Problem) (steps : ℕ) : Status → List ℕ → Type 0 where
+  yes : IsVerdict q steps equivalent → IsJudged q steps Equivalent equivalent_line
+  no : ¬ IsVerdict q steps equivalent → IsJudged q steps Refused not_equivalent_line
+
+-- how a check of five texts ends
+pub data CheckEnds (t : FiveTexts) (steps : ℕ) : Status → List ℕ → Type 0 where
+  unread : (role : Role) → FirstUnread t role → CheckEnds t steps Refused (unread_line role)
+  judged : (q : Problem) (status : Status) (report : List ℕ) → AreTextsOf t q → IsJudged q steps status report → CheckEnds t steps status report
+
+-- all five names are held, with these texts
+pub record AllHeld (files : FileMap) (names : Names) (t : FiveTexts) : Type 0 where
+  pub left_semantics : get files names.left_semantics ≡ Some t.left_semantics
+  pub right_semantics : get files names.right_semantics ≡ Some t.right_semantics
+  pub left_program : get files names.left_program ≡ Some t.left_program
+  pub right_program : get files names.right_program ≡ Some t.right_program
+  pub points : get files names.points ≡ Some t.points
+
+-- how a check of five names ends
+pub record NamesEnd (files : FileMap) (names : Names) (steps : ℕ) (status : Status) (report : List ℕ) : Type 0 where
+  pub texts : FiveTexts
+  pub held : AllHeld files names texts
+  pub ends : CheckEnds texts steps status report
+
+-- the outcome of what was asked for, by what the shelf holds, which is told; None stands for words of no form
+pub data Outcome (held : Option FileMap) : Option Command → Status → List ℕ → Type 0 where
+  usage : Outcome held None Usage bad_words_line
+  check : (files : FileMap) (names : Names) (steps : ℕ) (status : Status) (report : List ℕ) → held ≡ Some files → NamesEnd files names steps status report → Outcome held (Some (Check names steps)) status report
+
+-- the shelf tells what it holds, or no file is named
+abbrev pub Tells : Option FileMap → Option Command → Type 0
+Tells held None = ⊤
+Tells held (Some (Check names steps)) = IsSome held
+
+-- the whole report of the outcome was taken
+abbrev pub IsOutcomeTaken : Option FileMap → Option Command → Status → Option (List ℕ) → Option (List ℕ) → Type 0
+IsOutcomeTaken held command status before now = (report : List ℕ) × Outcome held command status report × IsTaken before report now
+
+-- a front of the report of an outcome was taken
+abbrev pub IsOutcomeFrontTaken : Option FileMap → Option Command → Option (List ℕ) → Option (List ℕ) → Type 0
+IsOutcomeFrontTaken held command before now = (status : Status) × ((report : List ℕ) × (Outcome held command status report × IsFrontTaken before report now))
