@@ -1,0 +1,5 @@
+pub mod Partial
+pub mod Status
+pub mod Forcing
+pub mod Branches
+pub mod Found
