@@ -5,3 +5,4 @@ mod Whole
 mod Ends
 mod Unread
 mod Outcomes
+mod OneOutcome

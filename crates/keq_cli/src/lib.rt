@@ -3,6 +3,7 @@
 
 mod check;
 mod judge;
+mod laws;
 mod loading;
 mod memory_shelf;
 mod memory_sink;
@@ -14,6 +15,7 @@ mod texts;
 mod top;
 mod words;
 
+pub use laws::outcome_is_unique;
 pub use memory_shelf::{CallList, Files, MemoryShelf, NamedText};
 pub use memory_sink::MemorySink;
 pub use no_memory::NoMemory;
