@@ -1,4 +1,8 @@
+pub mod FlatLemmas
+pub mod GroundLemmas
+pub mod Grown
 pub mod MapLemmas
+pub mod NodeLemmas
 pub mod OpLemmas
 pub mod TestLemmas
 pub mod TrialLemmas

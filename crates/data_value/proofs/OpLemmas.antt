@@ -91,7 +91,7 @@ equalities (a ∷ b ∷ []) s e = record { value = tt; sort = (chosen (is_scalar
 equalities _ s e = cc
 
 -- a value of a scalar sort is a scalar
-scalar_values : (v : Value) → is_scalar_sort (value_sort v) ≡ true → One (scalar_of v) ≡ v
+pub scalar_values : (v : Value) → is_scalar_sort (value_sort v) ≡ true → One (scalar_of v) ≡ v
 scalar_values (One x) e = refl
 scalar_values (Map m) e = cc
 

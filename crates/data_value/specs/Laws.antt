@@ -1,14 +1,19 @@
 -- What holds of the operators, of maps and of the trials, whatever the arguments.
-use Rattle.std.specs.Prelude.{◌≡◌, ◌≢◌, ℕ, ◌<◌, ◌^◌, IsTrue, ◌↔◌, List, Some, All, map}
+use Rattle.std.specs.Prelude.{◌≡◌, ◌≢◌, ℕ, ◌<◌, ◌^◌, IsTrue, ◌↔◌, List, Some, All, map, take, slice_get}
 use Rattle.data_value.specs.declared.DataSort.{DataSort}
 use Rattle.data_value.specs.declared.Scalar.{Scalar}
 use Rattle.data_value.specs.declared.Value.{Value}
 use Rattle.data_value.specs.declared.Value.TheVariants.{One}
 use Rattle.data_value.specs.declared.Op.{Op}
+use Rattle.data_value.specs.declared.Op.TheVariants.{Get, Put}
+use Rattle.data_value.specs.declared.flat_formula.FlatNode.TheVariants.{Apply}
 use Rattle.data_value.specs.Sorts.{IsSort, same_sort, op_sort}
 use Rattle.data_value.specs.Maps.{Mapping, IsMapping, SameReads, read, write, put_into}
 use Rattle.data_value.specs.Values.{scalar_sort, value_sort, IsScalar, IsValue, IsValueOf, is_value, same_scalar}
 use Rattle.data_value.specs.Ops.{scalar_value, op_value}
+use Rattle.data_value.specs.declared.flat_formula.FlatNode.{FlatNode}
+use Rattle.data_value.specs.declared.flat_formula.Flat.{Flat}
+use Rattle.data_value.specs.Flat.{AreWords, node_value, flat_sorts, flat_values}
 use Rattle.data_value.specs.Trials.{trial}
 
 -- At values of sorts that an operator takes, its value is a value of the sort that it gives.
@@ -66,3 +71,15 @@ PutsReadBack = (es : List (ℕ × ℕ)) (k v : ℕ) → read (write es k v) k �
 -- A put leaves the other keys alone.
 abbrev pub PutsLeaveOthers : Type 0
 PutsLeaveOthers = (es : List (ℕ × ℕ)) (k v j : ℕ) → j ≢ k → read (write es k v) j ≡ read es j
+
+-- At each place of a formula stands the value that its node has by the values before it.
+abbrev pub PlacesHaveValues : Type 0
+PlacesHaveValues = (widths words : List ℕ) (nodes : List FlatNode) (k : ℕ) (n : FlatNode) → slice_get nodes k ≡ Some n → slice_get (flat_values widths words nodes) k ≡ Some (node_value widths words (take k (flat_values widths words nodes)) n)
+
+-- The value at each place of a formula is a scalar of the sort of that place.
+abbrev pub PlacesKeepSorts : Type 0
+PlacesKeepSorts = (flat : Flat) (words : List ℕ) → AreWords flat.widths words → All IsScalar (flat_values flat.widths words flat.nodes) × (map scalar_sort (flat_values flat.widths words flat.nodes) ≡ flat_sorts flat.widths flat.nodes)
+
+-- No node of a formula is an operator on maps.
+abbrev pub FormulasLackMaps : Type 0
+FormulasLackMaps = (flat : Flat) (k : ℕ) (op : Op) (args : List ℕ) → slice_get flat.nodes k ≡ Some (Apply op args) → (op ≢ Get) × (op ≢ Put)

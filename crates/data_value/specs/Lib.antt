@@ -4,4 +4,10 @@ pub mod Maps
 pub mod Values
 pub mod Ops
 pub mod Trials
+pub mod Flat
 pub mod Laws
+pub mod Nodes
+pub mod Views
+pub mod ValueTests
+pub mod Ground
+pub mod NodeLaws

@@ -5,7 +5,7 @@ ghost use Rattle.data_value.specs.Values.{scalar_sort, value_sort, IsScalar, IsV
 use crate::{DataSort, NoMemory, Scalar, Value};
 use std::alloc::Global;
 
-fn sort_of_scalar(scalar: Scalar) -> DataSort
+pub(crate) fn sort_of_scalar(scalar: Scalar) -> DataSort
     ensures { result ≡ scalar_sort scalar }
 {
     match scalar {
@@ -25,7 +25,7 @@ pub fn value_sort(value: &Value) -> DataSort
 }
 
 /// Whether a width is from 1 to 64 and the number below 2 to its power.
-fn is_word(width: u8, bits: u64) -> bool
+pub(crate) fn is_word(width: u8, bits: u64) -> bool
     ensures { IsTrue result ↔ IsScalar (Scalar.Bits width bits) }
 {
     width == 64 || (1 <= width && width < 64 && bits < 1 << width)

@@ -1,5 +1,5 @@
 //! Laws of values, operators, maps and trials. Each function does nothing; its contract is the law.
-ghost use Rattle.data_value.specs.Laws.{OperatorsKeepSorts, ScalarsKeepSorts, OperatorsGiveSorts, ValuesHaveSorts, TestTellsValues, TestTellsSorts, TestTellsScalars, EverySortHasValue, TrialsFit, MapsAreReads, ReadsAreWords, PutsAreMaps, PutsReadBack, PutsLeaveOthers};
+ghost use Rattle.data_value.specs.Laws.{OperatorsKeepSorts, ScalarsKeepSorts, OperatorsGiveSorts, ValuesHaveSorts, TestTellsValues, TestTellsSorts, TestTellsScalars, EverySortHasValue, TrialsFit, MapsAreReads, ReadsAreWords, PutsAreMaps, PutsReadBack, PutsLeaveOthers, PlacesHaveValues, PlacesKeepSorts, FormulasLackMaps};
 
 /// The value of an operator at values that it takes is a value, and has the sort that `sort_of` answers for it.
 pub fn operators_keep_sorts()
@@ -37,4 +37,12 @@ pub fn puts_change_one_key()
     ensures map { PutsAreMaps }
     ensures back { PutsReadBack }
     ensures others { PutsLeaveOthers }
+{}
+
+/// At each place of a formula stands its node's value by the values before it, of the place's sort, and no node is an operator on
+/// maps.
+pub fn places_have_values()
+    ensures values { PlacesHaveValues }
+    ensures sorts { PlacesKeepSorts }
+    ensures no_maps { FormulasLackMaps }
 {}

@@ -4,21 +4,32 @@
 
 mod apply;
 mod compare;
+mod domain;
+mod flat_formula;
+mod ground;
 pub mod laws;
 mod map_value;
+pub mod node_laws;
 mod scalars;
 mod sorts;
+mod symbolic;
 #[cfg(test)]
 mod tests;
 mod words;
 
 pub use apply::apply_value;
 pub use compare::{copy_value, is_value, same_value, value_sort};
+pub use domain::Domain;
+pub use flat_formula::{
+    Flat, FlatNode, FlatNodes, Places, Scalars, Widths, Words, are_words, flat_values, is_flat,
+};
+pub use ground::Ground;
 pub use map_value::MapValue;
 pub use no_memory::NoMemory;
 pub use scalars::apply_scalar;
 pub use sorts::sort_of;
 use sqlite_items::Items;
+pub use symbolic::{Symbolic, View};
 
 /// The sort of a value. Every width is from 1 to 64.
 #[derive(Clone, Copy, Debug, Drop, PartialEq, Eq)]
