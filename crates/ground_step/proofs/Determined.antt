@@ -28,7 +28,8 @@ use Rattle.ground_step.specs.Binds.{Bound, Agrees, Narrows}
 use Rattle.ground_step.specs.Ready.{IsKnown}
 use Rattle.ground_step.specs.Fit.{ReadsWithin, is_part, is_part_of, Determines, DeterminesAll}
 use Rattle.ground_step.proofs.Bound.{agrees_at, fill, fill_agrees, fill_at, parts_of}
-use Rattle.ground_step.proofs.Sorting.{con_parts, op_parts_of}
+use Rattle.sort_term.proofs.Parts.{con_parts}
+use Rattle.sort_term.proofs.PartSorts.{op_parts_of}
 use Rattle.ground_step.proofs.Evaluated.{any_at}
 
 -- a variable to which all valuations that agree give one tree is bound to it

@@ -1,5 +1,5 @@
 -- What expressions give where the variables that they read are bound.
-use Rattle.std.proofs.Common.{arith, ◌≡◌, ◌↔◌, ℕ, zero, suc, ◌<◌, Bool, true, false, ◌||◌, IsTrue, List, [], ◌∷◌, ◌++◌, length, map, get_or, slice_get, Some, All, refl, sym, ap, ◌∙◌, subst}
+use Rattle.std.proofs.Common.{rules, arith, ◌≡◌, ◌↔◌, ℕ, zero, suc, ◌<◌, Bool, true, false, ◌||◌, IsTrue, List, [], ◌∷◌, ◌++◌, length, map, get_or, slice_get, Some, IsSome, All, refl, sym, ap, ◌∙◌, subst}
 use Rattle.std.specs.List.{list_any}
 use Rattle.std.proofs.lemmas.Bool.Decides.{Decides-eqb}
 use Rattle.std.proofs.lemmas.List.{map-append}
@@ -11,13 +11,17 @@ use Rattle.sort_term.specs.declared.term.Term.TheVariants as term
 use Rattle.sort_term.specs.declared.rule.RuleExpr.{RuleExpr}
 use Rattle.sort_term.specs.declared.rule.RuleExpr.TheVariants as expr
 use Rattle.sort_term.specs.Tree.{Tree, Trees, no_tree, value, plain_of, IsTrueTree}
-use Rattle.sort_term.specs.Sorted.{tree_sort, var_sort}
+use Rattle.data_value.specs.Sorts.{op_sort}
+use Rattle.sort_term.specs.declared.semantics.Con.{Con}
+use Rattle.sort_term.specs.declared.rule.Var.{Var}
+use Rattle.sort_term.specs.Sorted.{tree_sort, var_sort, expr_sort}
 use Rattle.sort_term.specs.Stands.{reads}
 use Rattle.sort_term.proofs.Equations.{value-Var, value-Lit, value-Op, value-Con, reads-Var, reads-Op, reads-Con}
 use Rattle.ground_step.specs.Binds.{Bound, Narrows, Gives, GiveAll}
 use Rattle.ground_step.specs.Ready.{IsReady, IsApplicable}
 use Rattle.ground_step.proofs.Bound.{agrees_at, fill, fill_agrees}
-use Rattle.ground_step.proofs.Sorting.{op_parts, con_parts_sorted, args_applicable}
+use Rattle.sort_term.proofs.Parts.{some_of}
+use Rattle.sort_term.proofs.PartSorts.{Sorts, op_parts, op_parts_of, con_parts_sorted, op_args, each_all}
 
 or_left : (a b : Bool) → IsTrue a → IsTrue (a || b)
 or_left true b h = refl
@@ -31,6 +35,14 @@ pub any_at : (i : ℕ) (es : List RuleExpr) (k : ℕ) (d : RuleExpr) → k < len
 any_at i [] k d l h = absurd (omega arith)
 any_at i (e ∷ es) zero d l h = or_left (reads i e) _ h
 any_at i (e ∷ es) (suc k) d l h = or_right (reads i e) _ (any_at i es k d (omega arith) h)
+
+-- an operator fits the values of its arguments
+args_applicable : (cons : List Con) (vars : List Var) (v : Trees) (op : Op) (es : List RuleExpr) → IsSome (expr_sort cons vars (expr.Op op es)) → ((i : ℕ) → IsTrue (reads i (expr.Op op es)) → Sorts cons vars v i) → IsApplicable op (map plain_of (map (value v) es))
+args_applicable cons vars v op es h a =
+    let s = some_of (expr_sort cons vars (expr.Op op es)) h in
+    let p = op_parts_of cons vars op es s.0 s.1 in
+    let r = op_args cons vars v op es s.0 (each_all cons vars v es) a p in
+    record { sorted = subst (λ ds. IsSome (op_sort op ds)) (sym r.1) (subst IsSome (sym p.fits) (search rules)); values = r.0 }
 
 module _ (bs : Bound) where
   pub var_bound : (i : ℕ) → IsReady bs (expr.Var i) → (t : Tree) × (slice_get bs i ≡ Some (Some t))

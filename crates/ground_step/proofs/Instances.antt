@@ -22,7 +22,7 @@ use Rattle.ground_step.specs.Binds.{Bound, Agrees, Narrows, Gives}
 use Rattle.ground_step.specs.Ready.{IsWithin, IsReady, AreDemandsReady}
 use Rattle.ground_step.specs.Steps.{StepIs, IsCovered}
 use Rattle.ground_step.proofs.Bound.{agrees_none, fill, fill_agrees, narrows_both}
-use Rattle.ground_step.proofs.Standing.{within}
+use Rattle.sort_term.proofs.Declared.{within}
 use Rattle.ground_step.proofs.Knowing.{RowsSorted, expr_ready, fits_bound, demands_ready}
 
 rule_checked : (sys : System) (n : ℕ) (r : Rule) → IsSemantics sys → slice_get sys.rules n ≡ Some r → IsRule sys.cons sys.tables sys.config r

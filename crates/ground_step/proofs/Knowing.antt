@@ -22,9 +22,9 @@ use Rattle.sort_term.specs.declared.rule.Source.TheVariants.{Expr, Row as RowOf}
 use Rattle.sort_term.specs.declared.rule.Demand.{Demand}
 use Rattle.sort_term.specs.declared.rule.Demand.TheVariants.{Let, When}
 use Rattle.sort_term.specs.Tree.{Tree, Trees, no_tree, tree_at, value, pattern_value}
-use Rattle.sort_term.specs.Sorted.{is_same, var_sort, tree_sort, pattern_sort, expr_sort, Fits}
+use Rattle.sort_term.specs.Sorted.{var_sort, tree_sort, pattern_sort, expr_sort, Fits}
 use Rattle.sort_term.specs.Stands.{times, times_in, StandsIn, reads, source_reads, let_patterns}
-use Rattle.sort_term.specs.Rules.{row_sort, source_sort, common_sort, demand_sort, ReadsBound}
+use Rattle.sort_term.specs.Rules.{source_sort, demand_sort, ReadsBound}
 use Rattle.sort_term.specs.Step.{Tables, row_at, table_at, word_in, source_value, Demanded}
 use Rattle.sort_term.proofs.Agreeing.{AgreeAt, tells, source_follows}
 use Rattle.sort_term.proofs.Equations.{tree_sort-Plain}
@@ -33,28 +33,9 @@ use Rattle.ground_step.specs.Binds.{Bound, Narrows}
 use Rattle.ground_step.specs.Ready.{IsKnown, IsReady, IsSourceReady, IsDemandReady, AreDemandsReady}
 use Rattle.ground_step.proofs.Lists.{all_more}
 use Rattle.ground_step.proofs.Bound.{agrees_at, agrees_long, fill, fill_agrees, fill_at, narrows_both}
-use Rattle.ground_step.proofs.Sorting.{Sorts, keeps_sort, is_same_is}
-use Rattle.ground_step.proofs.Standing.{part_above, either_in, only_in, fits_each, declares, within, binds}
-
--- two parts that have a sort in common have it each
-pub common_is : (a b : Option Sort) → IsSome (common_sort a b) → (s : Sort) × (a ≡ Some s) × (b ≡ Some s)
-common_is None b h = absurd (search rules)
-common_is (Some x) None h = absurd (search rules)
-common_is (Some x) (Some y) h = (x, refl, ap Some (sym (is_same_is x y (go (is_same x y) h))))
-  where
-    go : (t : Bool) → IsSome (if t then Some x else None) → t ≡ true
-    go true i = refl
-    go false i = absurd (search rules)
-
--- the table of a sorted read, and its key
-row_is : (o : Option Table) (k : Option Sort) (s : Sort) → row_sort o k ≡ Some s → (t : Table) × (o ≡ Some t) × (t.sort ≡ s) × IsSome k
-row_is None k s h = absurd (cc)
-row_is (Some t) None s h = absurd (cc)
-row_is (Some t) (Some key) s h = (t, refl, go (is_same key (Plain (Rattle.data_value.specs.declared.DataSort.TheVariants.Bits t.key))) h, search rules)
-  where
-    go : (b : Bool) → (if b then Some t.sort else None) ≡ Some s → t.sort ≡ s
-    go true e = cc
-    go false e = absurd (cc)
+use Rattle.sort_term.proofs.PartSorts.{Sorts, keeps_sort}
+use Rattle.sort_term.proofs.DemandSorts.{common_is, row_is, source_declared}
+use Rattle.sort_term.proofs.Declared.{part_above, either_in, only_in, fits_each, declares, within, binds}
 
 row_sorted : (cons : List Con) (s : Sort) (rows : List Row) (key : ℕ) (x : Tree) → All (λ r. tree_sort cons r.term ≡ Some s) rows → row_at rows key ≡ Some x → tree_sort cons x ≡ Some s
 row_sorted cons s [] key x a h = absurd (cc)
@@ -74,14 +55,9 @@ table_sorted cons None s key x a h = absurd (cc)
 table_sorted cons (Some rows) s key x a h = row_sorted cons s rows key x (a rows refl) h
 
 module _ (cons : List Con) (vars : List Var) (declared : List Table) (tables : Tables) (rows : RowsSorted cons declared tables) where
-  -- the expression in the right side of a sorted `let` is sorted
-  pub source_sorted : (src : Source) (s : Sort) → source_sort cons declared vars src ≡ Some s → (i : ℕ) → IsTrue (source_reads i src) → i < length vars
-  source_sorted (Expr e) s h i r = declares cons vars e (subst IsSome (sym h) (search rules)) i r
-  source_sorted (RowOf t e) s h i r = declares cons vars e (row_is (slice_get declared t.0) (expr_sort cons vars e) s h).3 i r
-
   pub source_ready : (bs : Bound) (src : Source) (s : Sort) → source_sort cons declared vars src ≡ Some s → ((i : ℕ) → IsTrue (source_reads i src) → IsKnown cons vars bs i) → IsSourceReady bs src
   source_ready bs (Expr e) s h k = record { cons = cons; vars = vars; sorted = subst IsSome (sym h) (search rules); known = k }
-  source_ready bs (RowOf t e) s h k = record { cons = cons; vars = vars; sorted = (row_is (slice_get declared t.0) (expr_sort cons vars e) s h).3; known = k }
+  source_ready bs (RowOf t e) s h k = record { cons = cons; vars = vars; sorted = subst IsSome (sym (row_is (slice_get declared t.0) (expr_sort cons vars e) s h).3) (search rules); known = k }
 
   -- its value has its sort
   source_keeps : (v : Trees) (src : Source) (s : Sort) (x : Tree) → source_sort cons declared vars src ≡ Some s → ((i : ℕ) → IsTrue (source_reads i src) → Sorts cons vars v i) → source_value tables v src ≡ Some x → tree_sort cons x ≡ Some s
@@ -113,7 +89,7 @@ module _ (cons : List Con) (vars : List Var) (declared : List Table) (tables : T
       demand_good : (k : ℕ) (d : Demand) → slice_get ds k ≡ Some d → IsSome (demand_sort cons declared vars d) → Demanded tables v d → Demanded tables w d → GoodBy k → (i : ℕ) → 0 < times_in i (let_patterns (d ∷ [])) → Good i
       demand_good k (Let p src) there h dv dw g i l =
           let c = common_is (pattern_sort cons vars p) (source_sort cons declared vars src) h in
-          let_good p src c.0 c.1 c.2 dv dw (λ j r. g j (bound.each k (Let p src) there j (source_sorted src c.0 c.2 j r) r)) i (only_in i p l)
+          let_good p src c.0 c.1 c.2 dv dw (λ j r. g j (bound.each k (Let p src) there j (source_declared cons vars declared src c.0 c.2 j r) r)) i (only_in i p l)
       demand_good k (When e) there h dv dw g i l = absurd (omega arith)
 
       good_more : (k : ℕ) (d : Demand) → k < length ds → slice_get ds k ≡ Some d → get_or ds k d ≡ d → Demanded tables v d → Demanded tables w d → GoodBy k → GoodBy (k + 1)
@@ -191,7 +167,7 @@ module _ (cons : List Con) (vars : List Var) (declared : List Table) (tables : T
       demand_ready (Let p src) there h =
           let c = common_is (pattern_sort cons vars p) (source_sort cons declared vars src) h in (
             record { below = λ i m. subst (λ y. i < y) (sym as_many) (within cons vars p c.0 c.1 i m) },
-            source_ready new src c.0 c.2 (λ i r. known i (bound.each k (Let p src) there i (source_sorted src c.0 c.2 i r) r)),
+            source_ready new src c.0 c.2 (λ i r. known i (bound.each k (Let p src) there i (source_declared cons vars declared src c.0 c.2 i r) r)),
           )
       demand_ready (When e) there h =
           let c = common_is (Some (Plain BoolSort)) (expr_sort cons vars e) h in

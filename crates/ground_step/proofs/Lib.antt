@@ -1,9 +1,7 @@
 pub mod Lists
 pub mod Bound
 pub mod Within
-pub mod Sorting
 pub mod Evaluated
-pub mod Standing
 pub mod Knowing
 pub mod Instances
 pub mod Cutting
@@ -15,3 +13,4 @@ pub mod Ahead
 pub mod Growing
 pub mod Determined
 pub mod Pairs
+pub mod FirstRuns

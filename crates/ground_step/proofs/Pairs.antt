@@ -31,8 +31,8 @@ use Rattle.ground_step.specs.Binds.{Bound, Agrees, Narrows}
 use Rattle.ground_step.specs.Ready.{IsKnown, IsReady}
 use Rattle.ground_step.specs.Fit.{ReadsWithin, Determines, IsValueBound, some_plain, plain_trees, IsOnlyFit, RelationIs}
 use Rattle.ground_step.proofs.Bound.{agrees_none, agrees_at, agrees_long}
-use Rattle.ground_step.proofs.Sorting.{con_parts}
-use Rattle.ground_step.proofs.Standing.{declares, fits_each}
+use Rattle.sort_term.proofs.Parts.{con_parts}
+use Rattle.sort_term.proofs.Declared.{declares, fits_each}
 use Rattle.ground_step.proofs.Determined.{stays_known}
 
 or_right : (a b : Bool) → IsTrue b → IsTrue (a || b)

@@ -4,8 +4,8 @@ use Rattle.std.specs.List.{Contains}
 use Rattle.sort_term.specs.declared.points.Cut.{Cut}
 use Rattle.sort_term.specs.System.{System}
 use Rattle.sort_term.specs.Tree.{Tree}
-use Rattle.sort_term.specs.Step.{Tables, IsState}
-use Rattle.sort_term.specs.Runs.{reached, IsStuck}
+use Rattle.sort_term.specs.Step.{Tables, StepsBy, IsState}
+use Rattle.sort_term.specs.Runs.{reached, IsStuck, IsFirstRun}
 use Rattle.sort_term.specs.Cuts.{IsMetIn, IsLongIn, IsHaltedIn}
 use Rattle.ground_step.specs.declared.run.Run.{Run}
 use Rattle.ground_step.specs.Steps.{steps_of}
@@ -44,6 +44,10 @@ LongFrom sys tables cuts s n = From s (IsLongIn sys tables cuts n s)
 -- the halted runs from s of at most n steps
 abbrev pub HaltedFrom : {S : Type 0} → System → Tables → List (Cut S) → Tree → ℕ → Path → Type 0
 HaltedFrom sys tables cuts s n = From s (λ run. IsHaltedIn sys tables cuts s run × (length run ≤ n))
+
+-- the first-rule run from s of n steps
+abbrev pub FirstRunFrom : System → Tables → Tree → ℕ → Path → Type 0
+FirstRunFrom sys tables s n = From s (IsFirstRun (StepsBy sys tables) n s)
 
 -- what is new in a list is exactly what has P, behind what was there
 pub record Adds {X : Type 0} (P : X → Type 0) (old new : List X) : Type 0 where

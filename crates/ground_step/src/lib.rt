@@ -3,6 +3,7 @@
 
 mod binds;
 mod evaluation;
+mod first;
 mod matching;
 mod reach;
 mod relation;
@@ -12,6 +13,7 @@ mod steps;
 mod tests;
 mod verdict;
 
+pub use first::{Ended, first_run};
 pub use reach::{GroundReach, cut_successors};
 pub use relation::{Fit, point_states, related};
 pub use run::{Run, RunStep, RunSteps, Runs};

@@ -41,8 +41,8 @@ pub fn successors<S: Side>(
     Ok(steps)
 }
 
-// The state that a rule gives from a state, if it applies.
-fn step<S: Side>(
+/// The state that a rule gives from a state, if it applies.
+pub fn step<S: Side>(
     alloc: Global,
     semantics: &Semantics<S>,
     program: &Program<S>,

@@ -3,7 +3,9 @@ ghost use Rattle.std.specs.Prelude.{◌≤◌};
 ghost use Rattle.sort_term.specs.Fits.{AreCuts, IsProgram};
 ghost use Rattle.sort_term.specs.Step.{IsState};
 
-use crate::{Fit, Run, RunSteps, cut_successors, in_cut, point_states, related, successors};
+use crate::{
+    Fit, Run, RunSteps, cut_successors, first_run, in_cut, point_states, related, successors,
+};
 use data_value::{DataSort, Op, Scalar, Value};
 use sexp_text::Name;
 use sort_term::{
@@ -337,6 +339,42 @@ fn runs(rt: HostRuntime) -> Result<(), Fail> {
     for (cut, n, steps, expected) in rows {
         assert!(rt; 1 <= steps);
         let text = found_runs(&rt, rt.alloc(), cut, n, steps);
+        assert_eq!(rt; text.as_slice(), expected.as_bytes(), "from {n}");
+    }
+    Ok(())
+}
+
+// The steps of the run by the first rule, and whether it has stopped.
+fn found_first_run(rt: &impl Abort, alloc: Global, n: u64, m: Option<u64>, steps: u32) -> Vec<u8> {
+    let semantics = machine::<Left>(rt, alloc);
+    let program = no_rows(rt, alloc, &semantics);
+    let start = state(rt, alloc, &semantics, n, m);
+    let ended = first_run(alloc, &semantics, &program, &start, steps).expect(rt, "memory");
+    let mut text = Vec::new(alloc);
+    show_steps(rt, &ended.run.steps, &mut text);
+    let end = if ended.stopped { b'.' } else { b'+' };
+    text.push(end).expect(rt, "memory");
+    text
+}
+
+// Each row has a state, a number of steps, and the run by the first rule, with a dot where it has stopped and else a plus.
+#[test]
+fn first_runs(rt: HostRuntime) -> Result<(), Fail> {
+    let rows: [(u64, Option<u64>, u32, &str); 9] = [
+        // Two rules apply at 0, and the first goes to 1.
+        (0, None, 9, "01 22 33 44 ."),
+        (0, None, 4, "01 22 33 44 ."),
+        (0, None, 3, "01 22 33 +"),
+        (0, None, 1, "01 +"),
+        (0, None, 0, "+"),
+        (2, None, 10000, "33 44 ."),
+        // States without a step.
+        (4, None, 9, "."),
+        (4, None, 0, "."),
+        (1, Some(1), 1, "51 +"),
+    ];
+    for (n, m, steps, expected) in rows {
+        let text = found_first_run(&rt, rt.alloc(), n, m, steps);
         assert_eq!(rt; text.as_slice(), expected.as_bytes(), "from {n}");
     }
     Ok(())

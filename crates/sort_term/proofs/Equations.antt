@@ -24,7 +24,7 @@ use Rattle.sort_term.specs.declared.rule.RuleExpr.TheOpen.{RuleExpr-F}
 use Rattle.sort_term.specs.declared.rule.RuleExpr.TheFolds.{fold-roll-RuleExpr}
 use Rattle.sort_term.specs.declared.rule.RuleExpr.TheVariants as expr
 use Rattle.sort_term.specs.Tree.{Tree, no_value, tree_at, plain_of, plain_step, pattern_step, pattern_value, value_step, value}
-use Rattle.sort_term.specs.Sorted.{term_sort, term_sort_step, tree_sort, leaf_sort, con_sort, var_sort, pattern_sort, pattern_sort_step, expr_sort, expr_sort_step, applied_sort}
+use Rattle.sort_term.specs.Sorted.{term_sort, term_sort_step, tree_sort, leaf_sort, con_sort, var_sort, pattern_sort, pattern_sort_step, expr_sort, expr_sort_where, expr_sort_step, applied_sort}
 use Rattle.sort_term.specs.Stands.{times_step, times, reads_step, reads, argument_step, argument_of}
 use Rattle.sort_term.specs.Meaning.{map_step, map_term}
 
@@ -44,21 +44,34 @@ pub value-Con : (v : List Tree) (k : ConId) (es : List RuleExpr) → value v (ex
 value-Con v k es =
     ap (value v) (sym (expr.rolls-Con k es)) ∙ fold-roll-RuleExpr Tree (value_step v) (RuleExpr-F.Con k es)
 
+module _ (cons : List Con) (sort_at : ℕ → Option Sort) where
+  pub where-Var : (i : ℕ) → expr_sort_where cons sort_at (expr.Var i) ≡ sort_at i
+  where-Var i =
+      ap (expr_sort_where cons sort_at) (sym (expr.rolls-Var i)) ∙ fold-roll-RuleExpr (Option Sort) (expr_sort_step cons sort_at) (RuleExpr-F.Var i)
+
+  pub where-Lit : (x : Value) → expr_sort_where cons sort_at (expr.Lit x) ≡ leaf_sort x
+  where-Lit x =
+      ap (expr_sort_where cons sort_at) (sym (expr.rolls-Lit x)) ∙ fold-roll-RuleExpr (Option Sort) (expr_sort_step cons sort_at) (RuleExpr-F.Lit x)
+
+  pub where-Op : (op : Op) (es : List RuleExpr) → expr_sort_where cons sort_at (expr.Op op es) ≡ applied_sort op (map (expr_sort_where cons sort_at) es)
+  where-Op op es =
+      ap (expr_sort_where cons sort_at) (sym (expr.rolls-Op op es)) ∙ fold-roll-RuleExpr (Option Sort) (expr_sort_step cons sort_at) (RuleExpr-F.Op op es)
+
+  pub where-Con : (k : ConId) (es : List RuleExpr) → expr_sort_where cons sort_at (expr.Con k es) ≡ con_sort (slice_get cons k.0) (map (expr_sort_where cons sort_at) es)
+  where-Con k es =
+      ap (expr_sort_where cons sort_at) (sym (expr.rolls-Con k es)) ∙ fold-roll-RuleExpr (Option Sort) (expr_sort_step cons sort_at) (RuleExpr-F.Con k es)
+
 pub expr_sort-Var : (cons : List Con) (vars : List Var) (i : ℕ) → expr_sort cons vars (expr.Var i) ≡ var_sort vars i
-expr_sort-Var cons vars i =
-    ap (expr_sort cons vars) (sym (expr.rolls-Var i)) ∙ fold-roll-RuleExpr (Option Sort) (expr_sort_step cons vars) (RuleExpr-F.Var i)
+expr_sort-Var cons vars i = where-Var cons (var_sort vars) i
 
 pub expr_sort-Lit : (cons : List Con) (vars : List Var) (x : Value) → expr_sort cons vars (expr.Lit x) ≡ leaf_sort x
-expr_sort-Lit cons vars x =
-    ap (expr_sort cons vars) (sym (expr.rolls-Lit x)) ∙ fold-roll-RuleExpr (Option Sort) (expr_sort_step cons vars) (RuleExpr-F.Lit x)
+expr_sort-Lit cons vars x = where-Lit cons (var_sort vars) x
 
 pub expr_sort-Op : (cons : List Con) (vars : List Var) (op : Op) (es : List RuleExpr) → expr_sort cons vars (expr.Op op es) ≡ applied_sort op (map (expr_sort cons vars) es)
-expr_sort-Op cons vars op es =
-    ap (expr_sort cons vars) (sym (expr.rolls-Op op es)) ∙ fold-roll-RuleExpr (Option Sort) (expr_sort_step cons vars) (RuleExpr-F.Op op es)
+expr_sort-Op cons vars op es = where-Op cons (var_sort vars) op es
 
 pub expr_sort-Con : (cons : List Con) (vars : List Var) (k : ConId) (es : List RuleExpr) → expr_sort cons vars (expr.Con k es) ≡ con_sort (slice_get cons k.0) (map (expr_sort cons vars) es)
-expr_sort-Con cons vars k es =
-    ap (expr_sort cons vars) (sym (expr.rolls-Con k es)) ∙ fold-roll-RuleExpr (Option Sort) (expr_sort_step cons vars) (RuleExpr-F.Con k es)
+expr_sort-Con cons vars k es = where-Con cons (var_sort vars) k es
 
 pub pattern_value-Bind : (v : List Tree) (i : ℕ) → pattern_value v (pattern.Bind i) ≡ tree_at v i
 pattern_value-Bind v i =

@@ -2,6 +2,7 @@ pub mod System
 pub mod Tree
 pub mod Meaning
 pub mod Sorted
+pub mod NodeTerms
 pub mod Step
 pub mod Runs
 pub mod Cuts
@@ -16,3 +17,4 @@ pub mod Fits
 pub mod SortLaws
 pub mod PartnerLaws
 pub mod RunLaws
+pub mod NodeTermLaws

@@ -89,15 +89,19 @@ pattern_sort_step cons vars (Pattern-F.Con c parts) = con_sort (slice_get cons c
 abbrev pub pattern_sort : List Con → List Var → Pattern → Option Sort
 pattern_sort cons vars = fold-Pattern (Option Sort) (pattern_sort_step cons vars)
 
--- the sort of an expression
-abbrev pub expr_sort_step : List Con → List Var → RuleExpr-F (Option Sort) → Option Sort
-expr_sort_step cons vars (RuleExpr-F.Var i) = var_sort vars i
-expr_sort_step cons vars (RuleExpr-F.Lit x) = leaf_sort x
-expr_sort_step cons vars (RuleExpr-F.Op op parts) = applied_sort op parts
-expr_sort_step cons vars (RuleExpr-F.Con c parts) = con_sort (slice_get cons c.0) parts
+-- the sort of an expression where the variable i has the sort `sort_at i`
+abbrev pub expr_sort_step : List Con → (ℕ → Option Sort) → RuleExpr-F (Option Sort) → Option Sort
+expr_sort_step cons sort_at (RuleExpr-F.Var i) = sort_at i
+expr_sort_step cons sort_at (RuleExpr-F.Lit x) = leaf_sort x
+expr_sort_step cons sort_at (RuleExpr-F.Op op parts) = applied_sort op parts
+expr_sort_step cons sort_at (RuleExpr-F.Con c parts) = con_sort (slice_get cons c.0) parts
 
+abbrev pub expr_sort_where : List Con → (ℕ → Option Sort) → RuleExpr → Option Sort
+expr_sort_where cons sort_at = fold-RuleExpr (Option Sort) (expr_sort_step cons sort_at)
+
+-- the sort of an expression over declared variables
 abbrev pub expr_sort : List Con → List Var → RuleExpr → Option Sort
-expr_sort cons vars = fold-RuleExpr (Option Sort) (expr_sort_step cons vars)
+expr_sort cons vars = expr_sort_where cons (var_sort vars)
 
 -- a tree, a pattern and an expression of a sort
 pub record IsTreeOf (cons : List Con) (a : Sort) (t : Tree) : Type 0 where

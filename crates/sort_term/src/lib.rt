@@ -5,6 +5,7 @@ mod bound;
 mod fits;
 mod ids;
 mod named;
+mod node_term_laws;
 mod partner_laws;
 mod points;
 mod problem;
@@ -28,6 +29,7 @@ pub use fits::{
 };
 pub use ids::{ConId, RuleId, RuleIds, SortId, TableId};
 pub use named::{Named, are_distinct, are_free, has_name};
+pub use node_term_laws::{ground_terms_are_trees, terms_mean_their_sorts, terms_stay};
 pub use partner_laws::partners_leave_no_failure;
 pub use points::{Cut, Cuts, Point, PointList, Points};
 pub use problem::Problem;

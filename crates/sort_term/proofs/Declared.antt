@@ -20,7 +20,8 @@ use Rattle.sort_term.specs.Stands.{times, times_in, reads}
 use Rattle.sort_term.proofs.Each.{Each}
 use Rattle.sort_term.proofs.Equations.{expr_sort-Var, pattern_value-Bind, pattern_value-Con, pattern_sort-Bind, pattern_sort-Con, tree_sort-Con, times-Bind, times-Exact, times-Con, reads-Var, reads-Lit, reads-Op, reads-Con}
 use Rattle.sort_term.proofs.Induction.{pattern_ind, expr_ind}
-use Rattle.ground_step.proofs.Sorting.{Sorts, con_parts, con_parts_sorted, op_parts}
+use Rattle.sort_term.proofs.Parts.{con_parts}
+use Rattle.sort_term.proofs.PartSorts.{Sorts, con_parts_sorted, op_parts}
 
 -- a sum above 0 has a part above 0
 pub part_above : (P : Type 0) (a b : ℕ) → 0 < a + b → (0 < a → P) → (0 < b → P) → P
