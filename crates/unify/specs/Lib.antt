@@ -1,0 +1,6 @@
+pub mod Binds
+pub mod Places
+pub mod Meets
+pub mod Constants
+pub mod Branches
+pub mod Matchings
