@@ -1,0 +1,13 @@
+pub mod RangeLemmas
+pub mod ExtendLemmas
+pub mod GateLemmas
+pub mod NumberLemmas
+pub mod KnownLemmas
+pub mod WordLemmas
+pub mod LayoutLemmas
+pub mod PushLemmas
+pub mod SumLemmas
+pub mod FreeLemmas
+pub mod ShiftLemmas
+pub mod ProductLemmas
+pub mod DivisionLemmas

@@ -1,0 +1,4 @@
+pub mod Inputs
+pub mod Free
+pub mod Places
+pub mod Circuits
