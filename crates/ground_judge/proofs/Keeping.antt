@@ -1,5 +1,5 @@
 -- What the lists of runs from a state tell of it.
-use Rattle.std.proofs.Common.{◌≡◌, ◌≢◌, ℕ, ◌≤◌, List, [], ◌∷◌, length, refl, sym, ap, subst, inl, inr, All}
+use Rattle.std.proofs.Common.{◌≡◌, ◌≢◌, ℕ, List, [], ◌∷◌, length, refl, sym, ap, subst, All}
 use Rattle.std.proofs.lemmas.List.Elements.{All-head, All-weaker}
 use Rattle.sort_term.specs.declared.points.Cut.{Cut}
 use Rattle.sort_term.specs.System.{System}
@@ -13,9 +13,9 @@ use Rattle.ground_step.specs.Reach.{Path, From, AreExactly, MetFrom, LongFrom, H
 use Rattle.ground_step.specs.declared.run.Run.{Run}
 use Rattle.ground_step.proofs.States.{run_state}
 use Rattle.ground_step.proofs.Exactly.{exactly_same, contains_nil}
-use Rattle.ground_judge.specs.Found.{AreMet, Escapes}
+use Rattle.ground_judge.specs.Found.{AreMet}
 use Rattle.ground_judge.proofs.TreeCode.{tree_code}
-use Rattle.ground_judge.proofs.Meets.{always_meets}
+use Rattle.ground_judge.proofs.Meets.{always_meets, halted_short}
 
 some_item : {X : Type 0} (P : X → Type 0) (xs : List X) → xs ≢ [] → All P xs → (x : X) × P x
 some_item P [] d a = absurd (d refl)
@@ -27,14 +27,22 @@ no_runs [] e = refl
 no_runs (x ∷ xs) e = let l : length (runs_of (x ∷ xs)) ≡ 0 = ap length e in absurd (cc)
 
 module _ {S : Type 0} (sys : System) (tables : Tables) (cuts : List (Cut S)) (s : Tree) (n : ℕ) where
-  pub long_escapes : (runs : List Path) → runs ≢ [] → AreExactly (LongFrom sys tables cuts s n) runs → Escapes (StepsBy sys tables) (InCut sys.cons cuts) n s
-  long_escapes runs d e = let r = some_item (LongFrom sys tables cuts s n) runs d e.sound in inl (r.0.1, r.1.1)
+  -- a list of all long runs, or of all halted ones, that isn't empty shows one
+  pub some_long : (runs : List Path) → runs ≢ [] → AreExactly (LongFrom sys tables cuts s n) runs → (run : List (ℕ × Tree)) × IsLong (StepsBy sys tables) (InCut sys.cons cuts) n s run
+  some_long runs d e = let r = some_item (LongFrom sys tables cuts s n) runs d e.sound in (r.0.1, r.1.1)
 
-  pub halted_escapes : (runs : List Path) → runs ≢ [] → AreExactly (HaltedFrom sys tables cuts s n) runs → Escapes (StepsBy sys tables) (InCut sys.cons cuts) n s
-  halted_escapes runs d e = let r = some_item (HaltedFrom sys tables cuts s n) runs d e.sound in inr (r.0.1, r.1.1.0)
+  pub some_halted : (runs : List Path) → runs ≢ [] → AreExactly (HaltedFrom sys tables cuts s n) runs → (run : List (ℕ × Tree)) × IsHalted (StepsBy sys tables) (InCut sys.cons cuts) s run
+  some_halted runs d e = let r = some_item (HaltedFrom sys tables cuts s n) runs d e.sound in (r.0.1, r.1.1.0)
+
+  -- an empty one shows that there is none
+  pub no_long : AreExactly (LongFrom sys tables cuts s n) [] → (run : List (ℕ × Tree)) → ¬ IsLong (StepsBy sys tables) (InCut sys.cons cuts) n s run
+  no_long l run is = contains_nil (s, run) (l.complete (s, run) (refl, is))
+
+  pub no_halted : AreExactly (LongFrom sys tables cuts s n) [] → AreExactly (HaltedFrom sys tables cuts s n) [] → (run : List (ℕ × Tree)) → ¬ IsHalted (StepsBy sys tables) (InCut sys.cons cuts) s run
+  no_halted l h run is = contains_nil (s, run) (h.complete (s, run) (refl, (is, halted_short (StepsBy sys tables) (InCut sys.cons cuts) s n (no_long l) run is)))
 
   pub are_met : (met : List Path) → AreExactly (MetFrom sys tables cuts s n) met → AreExactly (LongFrom sys tables cuts s n) [] → AreExactly (HaltedFrom sys tables cuts s n) [] → AreMet (StepsBy sys tables) (InCut sys.cons cuts) n s met
-  are_met met m l h = record { meets = always_meets Steps In s tree_code n met no_long no_halted all; exactly = all }
+  are_met met m l h = record { meets = always_meets Steps In s tree_code n met (no_long l) (λ run is short. no_halted l h run is) all; exactly = all }
     where
       Steps : ℕ → Tree → Tree → Type 0
       Steps = StepsBy sys tables
@@ -42,15 +50,9 @@ module _ {S : Type 0} (sys : System) (tables : Tables) (cuts : List (Cut S)) (s 
       In : Tree → Type 0
       In = InCut sys.cons cuts
 
-      no_long : (run : List (ℕ × Tree)) → ¬ IsLong Steps In n s run
-      no_long run is = contains_nil (s, run) (l.complete (s, run) (refl, is))
-
-      no_halted : (run : List (ℕ × Tree)) → IsHalted Steps In s run → length run ≤ n → ⊥
-      no_halted run is short = contains_nil (s, run) (h.complete (s, run) (refl, (is, short)))
-
       all : AreExactly (From s (IsMet Steps In s)) met
       all =
-          exactly_same (MetFrom sys tables cuts s n) (From s (IsMet Steps In s)) met (λ p. (λ x. (x.0, x.1.0), λ x. (x.0, (x.1, met_short Steps In s n p.1 no_long x.1)))) m
+          exactly_same (MetFrom sys tables cuts s n) (From s (IsMet Steps In s)) met (λ p. (λ x. (x.0, x.1.0), λ x. (x.0, (x.1, met_short Steps In s n p.1 (no_long l) x.1)))) m
 
 -- the met runs from a state end in states
 pub met_states : {S : Type 0} (sys : System) (tables : Tables) (cuts : List (Cut S)) (s : Tree) (n : ℕ) (met : List Path) → IsSemantics sys → IsState sys s → AreMet (StepsBy sys tables) (InCut sys.cons cuts) n s met → All (EndsInState sys) met

@@ -26,7 +26,7 @@ module _ (q : Problem) (n : ℕ) (most : 1 ≤ n) (p : Point) (w : IsWellGrounde
       let m = one_more (StepsOf q side) (InCutOf q side) (of_side side f.1 f.2) n run (w.meets side f.0 f.1 f.2 f.3 run is.runs is.moves) is.clear in
       is.stuck m.1.0 m.1.1 m.1.2
 
-  no_test : (t : Test) → ¬ HasTest q n p t
+  pub no_test : (t : Test) → ¬ HasTest q n p t
   no_test void f = f w.held.0 w.held.1
   no_test (outside side) f = f.4 (w.inside side f.0 f.1 f.2 f.3)
   no_test (long side) f = not_long side f

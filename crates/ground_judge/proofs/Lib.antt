@@ -2,7 +2,9 @@ pub mod Deciding
 pub mod TreeCode
 pub mod Meets
 pub mod Laws
+pub mod Tests
 pub mod Judged
+pub mod Verdicts
 pub mod Pairs
 pub mod Turns
 pub mod Keeping

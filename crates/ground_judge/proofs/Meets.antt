@@ -54,6 +54,14 @@ module _ {S : Type 0} (Steps : ℕ → S → S → Type 0) (In : S → Type 0) (
         goes_on k longer (omega arith) (run_push Steps s run (m, t) runs step) (All-push (λ x. ¬ In x.1) run (m, t) clear out) (not_pushed run (m, t)) (λ met h b. none met h (record { rest = (m, t) ∷ b.rest; is = sym (append_assoc run ((m, t) ∷ []) b.rest) ∙ b.is }))
         )
 
+  -- where no run is long, a halted run has at most n steps
+  pub halted_short : (n : ℕ) → ((run : List (ℕ × S)) → ¬ IsLong Steps In n s run) → (run : List (ℕ × S)) → IsHalted Steps In s run → length run ≤ n
+  halted_short n long run is = go (cases_lt n (length run))
+    where
+      go : (n < length run) ⊎ (length run ≤ n) → length run ≤ n
+      go (inl h) = absurd (long (take n run) (long_front Steps In s (length run) n run (omega arith) (record { long = refl; runs = is.runs; clear = is.clear })))
+      go (inr h) = h
+
   -- a run that no met run begins stays outside the cut
   stays_out : (done rest : List (ℕ × S)) → IsRun Steps s (done ++ rest) → IsClear In done → ((met : List (ℕ × S)) → IsMet Steps In s met → ¬ Begins met (done ++ rest)) → IsClear In (done ++ rest)
   stays_out done [] runs clear none = subst (IsClear In) (sym (append-nil done)) clear

@@ -1,12 +1,22 @@
--- What the runs from the states of a point show.
-use Rattle.std.specs.Prelude.{ℕ, ◌⊎◌, List, All, Any}
+-- What the runs from the states of a point show, and what is known of the points so far.
+use Rattle.std.specs.Prelude.{◌≡◌, ◌≢◌, ℕ, ◌<◌, List, [], All, Any, Option, Some, None, MatchBool}
 use Rattle.sort_term.specs.declared.points.Point.{Point}
 use Rattle.sort_term.specs.declared.problem.Problem.{Problem}
+use Rattle.sort_term.specs.declared.term.Left.{Left}
+use Rattle.sort_term.specs.declared.term.Right.{Right}
 use Rattle.sort_term.specs.Tree.{Tree}
-use Rattle.sort_term.specs.Runs.{IsMet, IsLong, IsHalted}
+use Rattle.sort_term.specs.Runs.{IsMet}
 use Rattle.sort_term.specs.Relation.{Related, RightFails, LeftFails}
-use Rattle.sort_term.specs.Simulation.{IsUngrounded, RightMatches, LeftMatches}
+use Rattle.sort_term.specs.Simulation.{IsPoint, RightMatches, LeftMatches}
+use Rattle.sort_term.specs.Verdict.{FirstTest, AtPoint, NoneBefore}
 use Rattle.ground_step.specs.Reach.{Path, From, AreExactly, end_of}
+use Rattle.ground_step.specs.declared.reach.GroundReach.{GroundReach}
+use Rattle.ground_step.specs.declared.verdict.SideName.TheVariants as side
+use Rattle.ground_judge.specs.declared.kind.FailedTest.{FailedTest}
+use Rattle.ground_judge.specs.declared.kind.FailedTest.TheVariants.{Long, Halted}
+use Rattle.ground_judge.specs.declared.finding.Finding.{Finding}
+use Rattle.ground_judge.specs.declared.finding.Finding.TheVariants.{Ungrounded, Grounded}
+use Rattle.ground_judge.specs.Kinds.{test_of}
 use Rattle.ground_judge.specs.Meeting.{AlwaysMeets}
 use Rattle.ground_judge.specs.Grounded.{IsWellGroundedAt}
 
@@ -15,18 +25,24 @@ pub record AreMet (Steps : ℕ → Tree → Tree → Type 0) (In : Tree → Type
   pub meets : AlwaysMeets Steps In n s
   pub exactly : AreExactly (From s (IsMet Steps In s)) met
 
--- some run from s is long or halted
-abbrev pub Escapes : (ℕ → Tree → Tree → Type 0) → (Tree → Type 0) → ℕ → Tree → Type 0
-Escapes Steps In n s =
-    ((run : List (ℕ × Tree)) × IsLong Steps In n s run) ⊎ ((run : List (ℕ × Tree)) × IsHalted Steps In s run)
-
 -- moreover s is in the cut
 abbrev pub Keeps : (ℕ → Tree → Tree → Type 0) → (Tree → Type 0) → ℕ → Tree → List Path → Type 0
 Keeps Steps In n s met = In s × AreMet Steps In n s met
 
--- s isn't in the cut, or some run from it is long or halted
-abbrev pub Strays : (ℕ → Tree → Tree → Type 0) → (Tree → Type 0) → ℕ → Tree → Type 0
-Strays Steps In n s = ¬ In s ⊎ Escapes Steps In n s
+-- no run is long or halted
+pub record NoEscape (l : GroundReach Left) (r : GroundReach Right) : Type 0 where
+  pub left_long : l.long ≡ []
+  pub right_long : r.long ≡ []
+  pub left_halted : l.halted ≡ []
+  pub right_halted : r.halted ≡ []
+
+-- some run is long or halted, as the test says, and none as a test before it says
+abbrev pub FirstEscape : GroundReach Left → GroundReach Right → FailedTest → Type 0
+FirstEscape l r (Long side.Left) = l.long ≢ []
+FirstEscape l r (Long side.Right) = (l.long ≡ []) × (r.long ≢ [])
+FirstEscape l r (Halted side.Left) = (l.long ≡ []) × (r.long ≡ []) × (l.halted ≢ [])
+FirstEscape l r (Halted side.Right) = (l.long ≡ []) × (r.long ≡ []) × (l.halted ≡ []) × (r.halted ≢ [])
+FirstEscape l r _ = ⊥
 
 -- each right run ends in a state that is related to the last state of a left run, and some right run doesn't
 abbrev pub AreRightsMatched : List Point → List Path → List Path → Type 0
@@ -42,11 +58,19 @@ AreLeftsMatched points lefts rights = All (λ l. Any (λ r. Related points (end_
 abbrev pub IsLeftUnmatched : List Point → List Path → List Path → Type 0
 IsLeftUnmatched points lefts rights = Any (λ l. All (λ r. ¬ Related points (end_of l) (end_of r)) rights) lefts
 
--- nothing is wrong with the point, and something is
-pub record Passes (q : Problem) (n : ℕ) (p : Point) : Type 0 where
-  pub grounded : IsWellGroundedAt q n p
-  pub rights : RightMatches q p
-  pub lefts : LeftMatches q p
+-- what is found of a point is so: the first test that holds there; or it is grounded, and each side fails or has all partners
+abbrev pub Finds : Problem → ℕ → Point → Finding → Type 0
+Finds q n p (Ungrounded t) = FirstTest q n (test_of t) p
+Finds q n p (Grounded right_fails left_fails) =
+    IsWellGroundedAt q n p × MatchBool right_fails (RightFails q p) (RightMatches q p) × MatchBool left_fails (LeftFails q p) (LeftMatches q p)
 
-abbrev pub Fails : Problem → ℕ → Point → Type 0
-Fails q n p = IsUngrounded q n p ⊎ (RightFails q p ⊎ LeftFails q p)
+-- of the first k points this is the first that has P; where it is none, all have Q
+abbrev pub IsFirstOf : Problem → (Point → Type 0) → (Point → Type 0) → ℕ → Option ℕ → Type 0
+IsFirstOf q P Q k None = (j : ℕ) (p : Point) → j < k → IsPoint q j p → Q p
+IsFirstOf q P Q k (Some i) = AtPoint q P i × NoneBefore q P i
+
+-- what is known of the first k points, which are all grounded: the first where the right fails, and the first where the left fails
+pub record AreJudged (q : Problem) (n k : ℕ) (unmatched refined : Option ℕ) : Type 0 where
+  pub grounded : (j : ℕ) (p : Point) → j < k → IsPoint q j p → IsWellGroundedAt q n p
+  pub rights : IsFirstOf q (RightFails q) (RightMatches q) k unmatched
+  pub lefts : IsFirstOf q (LeftFails q) (LeftMatches q) k refined

@@ -1,13 +1,15 @@
-//! Whether points without variables denote a grounded cut-bisimulation, by all runs from their states up to the cut.
+//! The verdict on points without variables, by all runs from their states up to the cut.
 #![tactic(auto)]
 
-mod equivalence;
+mod finding;
 mod ground;
 mod ground_laws;
+mod kind;
 mod left_partners;
-mod reach;
 mod right_partners;
+mod verdict;
 
-pub use equivalence::is_equivalent;
 pub use ground::are_ground;
 pub use ground_laws::well_grounded_is_grounded;
+pub use kind::{FailedTest, VerdictKind};
+pub use verdict::judge;

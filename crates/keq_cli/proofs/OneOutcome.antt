@@ -1,22 +1,26 @@
 -- What was asked for has one outcome.
-use Rattle.std.proofs.Common.{◌≡◌, ℕ, List, [], Option, map, refl, sym, ap, subst, ◌∙◌}
+use Rattle.std.proofs.Common.{◌≡◌, ℕ, List, [], Option, Some, map, slice_get, refl, sym, ap, subst, ◌∙◌}
 use Rattle.std.proofs.lemmas.Option.{same_Some}
+use Rattle.sort_term.specs.declared.points.Point.{Point}
 use Rattle.sort_term.specs.declared.points.Points.{Points}
 use Rattle.sort_term.specs.declared.problem.Problem.{Problem}
 use Rattle.sort_term.specs.Fits.{IsProblem}
 use Rattle.sort_term.specs.Step.{Tables}
 use Rattle.sort_term.specs.System.{System}
-use Rattle.sort_term.specs.Verdict.{IsVerdict, equivalent}
+use Rattle.sort_term.specs.Verdict.{IsVerdict, Kind}
+use Rattle.sort_term.specs.Verdict as kind
+use Rattle.sort_term.proofs.VerdictLemmas.{one_verdict}
 use Rattle.semantics_load.proofs.Same.{one_semantics}
 use Rattle.program_text.specs.Text.{IsProgramText}
 use Rattle.sync_points.specs.Text.{IsPointsText}
 use Rattle.sync_points.proofs.Same.{one_points}
 use Rattle.keq_cli.specs.Outside.{FileMap}
 use Rattle.keq_cli.specs.Words.{Names, Command}
-use Rattle.keq_cli.specs.Reports.{unread_line}
-use Rattle.keq_cli.specs.Outcome.{FiveTexts, FirstUnread, left_semantics, right_semantics, left_program, right_program, points, AreTextsOf, IsJudged, yes, no, CheckEnds, unread, judged, AllHeld, NamesEnd, Outcome, usage, check}
+use Rattle.keq_cli.specs.Reports.{equivalent_line, refines_lines, unmatched_lines, not_grounded_lines, unread_line}
+use Rattle.keq_cli.specs.Outcome.{FiveTexts, FirstUnread, left_semantics, right_semantics, left_program, right_program, points, AreTextsOf, IsJudged, equivalent, refines, unmatched, not_grounded, CheckEnds, unread, judged, AllHeld, NamesEnd, Outcome, usage, check}
 use Rattle.keq_cli.specs.declared.texts.Role.{Role}
 use Rattle.keq_cli.specs.declared.status.Status.{Status}
+use Rattle.keq_cli.specs.declared.status.Status.TheVariants.{Equivalent, Refines, Unmatched, NotGrounded}
 
 -- at most one text is the first that doesn't load
 same_role : (t : FiveTexts) (a b : Role) → FirstUnread t a → FirstUnread t b → a ≡ b
@@ -58,32 +62,65 @@ all_load t _ q (points l r lp rp ls rs lps rps none) a =
     (subst (λ (s : System). IsPointsText q.left s t.points q.points) (one_semantics t.right_semantics q.right r a.right rs) a.points))
 
 -- problems of the same parts have the same verdict
-same_verdict : (n : ℕ) (q p : Problem) → q.left ≡ p.left → q.right ≡ p.right → q.left_program ≡ p.left_program → q.right_program ≡ p.right_program → q.points ≡ p.points → IsVerdict q n equivalent → IsVerdict p n equivalent
-same_verdict n q p left right lp rp pts v =
+same_verdict : (n : ℕ) (k : Kind) (q p : Problem) → q.left ≡ p.left → q.right ≡ p.right → q.left_program ≡ p.left_program → q.right_program ≡ p.right_program → q.points ≡ p.points → IsVerdict q n k → IsVerdict p n k
+same_verdict n k q p left right lp rp pts v =
     let of : (l r : System) (a b : Tables) (c : Points) → IsProblem l r a b c → Problem = λ l r a b c f. record { left = l; right = r; left_program = a; right_program = b; points = c; fits = f } in
-    subst (λ (l : System). (f : IsProblem l p.right p.left_program p.right_program p.points) → IsVerdict (of l p.right p.left_program p.right_program p.points f) n equivalent) left
-    (subst (λ (r : System). (f : IsProblem q.left r p.left_program p.right_program p.points) → IsVerdict (of q.left r p.left_program p.right_program p.points f) n equivalent) right
-    (subst (λ (a : Tables). (f : IsProblem q.left q.right a p.right_program p.points) → IsVerdict (of q.left q.right a p.right_program p.points f) n equivalent) lp
-    (subst (λ (b : Tables). (f : IsProblem q.left q.right q.left_program b p.points) → IsVerdict (of q.left q.right q.left_program b p.points f) n equivalent) rp
-    (subst (λ (c : Points). (f : IsProblem q.left q.right q.left_program q.right_program c) → IsVerdict (of q.left q.right q.left_program q.right_program c f) n equivalent) pts
+    subst (λ (l : System). (f : IsProblem l p.right p.left_program p.right_program p.points) → IsVerdict (of l p.right p.left_program p.right_program p.points f) n k) left
+    (subst (λ (r : System). (f : IsProblem q.left r p.left_program p.right_program p.points) → IsVerdict (of q.left r p.left_program p.right_program p.points f) n k) right
+    (subst (λ (a : Tables). (f : IsProblem q.left q.right a p.right_program p.points) → IsVerdict (of q.left q.right a p.right_program p.points f) n k) lp
+    (subst (λ (b : Tables). (f : IsProblem q.left q.right q.left_program b p.points) → IsVerdict (of q.left q.right q.left_program b p.points f) n k) rp
+    (subst (λ (c : Points). (f : IsProblem q.left q.right q.left_program q.right_program c) → IsVerdict (of q.left q.right q.left_program q.right_program c f) n k) pts
     (λ _. v))))) p.fits
 
--- texts are those of one problem, so of one verdict
-verdict_of_texts : (t : FiveTexts) (n : ℕ) (q p : Problem) → AreTextsOf t q → AreTextsOf t p → IsVerdict q n equivalent → IsVerdict p n equivalent
-verdict_of_texts t n q p a b =
-    let left = one_semantics t.left_semantics q.left p.left a.left b.left in
-    let right = one_semantics t.right_semantics q.right p.right a.right b.right in
-    let points_of = subst (λ (s : System). IsPointsText q.left s t.points p.points) (sym right) (subst (λ (s : System). IsPointsText s p.right t.points p.points) (sym left) b.points) in
-    same_verdict n q p left right
-    (a.left_program.rows ∙ ap (λ (s : System). map (λ _. []) s.tables) left ∙ sym b.left_program.rows)
-    (a.right_program.rows ∙ ap (λ (s : System). map (λ _. []) s.tables) right ∙ sym b.right_program.rows)
-    (one_points q.left q.right t.points q.points p.points a.points points_of)
+-- texts are those of one list of cuts and points, and of one verdict
+module _ (t : FiveTexts) (q p : Problem) (a : AreTextsOf t q) (b : AreTextsOf t p) where
+  same_left : q.left ≡ p.left
+  same_left = one_semantics t.left_semantics q.left p.left a.left b.left
+
+  same_right : q.right ≡ p.right
+  same_right = one_semantics t.right_semantics q.right p.right a.right b.right
+
+  points_of_texts : q.points ≡ p.points
+  points_of_texts = one_points q.left q.right t.points q.points p.points a.points (subst (λ (s : System). IsPointsText q.left s t.points p.points) (sym same_right) (subst (λ (s : System). IsPointsText s p.right t.points p.points) (sym same_left) b.points))
+
+  verdict_of_texts : (n : ℕ) (k : Kind) → IsVerdict q n k → IsVerdict p n k
+  verdict_of_texts n k =
+      same_verdict n k q p same_left same_right
+      (a.left_program.rows ∙ ap (λ (s : System). map (λ _. []) s.tables) same_left ∙ sym b.left_program.rows)
+      (a.right_program.rows ∙ ap (λ (s : System). map (λ _. []) s.tables) same_right ∙ sym b.right_program.rows)
+      points_of_texts
+
+-- the status and the report of a kind, where these are the points
+abbrev IsShown : List Point → Kind → Status → List ℕ → Type 0
+IsShown ps kind.equivalent s x = (s ≡ Equivalent) × (x ≡ equivalent_line)
+IsShown ps (kind.refines k) s x = (p : Point) × (slice_get ps k ≡ Some p) × (s ≡ Refines) × (x ≡ refines_lines p.name)
+IsShown ps (kind.unmatched k) s x = (p : Point) × (slice_get ps k ≡ Some p) × (s ≡ Unmatched) × (x ≡ unmatched_lines p.name)
+IsShown ps (kind.ungrounded k test) s x = (p : Point) × (slice_get ps k ≡ Some p) × (s ≡ NotGrounded) × (x ≡ not_grounded_lines test p.name)
+
+kind_of_judged : (q : Problem) (n : ℕ) (s : Status) (x : List ℕ) → IsJudged q n s x → (k : Kind) × IsVerdict q n k × IsShown q.points.points k s x
+kind_of_judged q n _ _ (equivalent v) = (kind.equivalent, v, (refl, refl))
+kind_of_judged q n _ _ (refines k p v is) = (kind.refines k, v, (p, is, refl, refl))
+kind_of_judged q n _ _ (unmatched k p v is) = (kind.unmatched k, v, (p, is, refl, refl))
+kind_of_judged q n _ _ (not_grounded k test p v is) = (kind.ungrounded k test, v, (p, is, refl, refl))
+
+-- what names the same point reads the same
+same_lines : (ps : List Point) (k : ℕ) (status s r : Status) (lines : List ℕ → List ℕ) (x y : List ℕ) → (p : Point) × (slice_get ps k ≡ Some p) × (s ≡ status) × (x ≡ lines p.name) → (p : Point) × (slice_get ps k ≡ Some p) × (r ≡ status) × (y ≡ lines p.name) → (s ≡ r) × (x ≡ y)
+same_lines ps k status s r lines x y f g =
+    let e = same_Some f.0 g.0 (sym f.1 ∙ g.1) in (f.2 ∙ sym g.2, f.3 ∙ ap (λ (p : Point). lines p.name) e ∙ sym g.3)
+
+same_shown : (ps : List Point) (k : Kind) (s r : Status) (x y : List ℕ) → IsShown ps k s x → IsShown ps k r y → (s ≡ r) × (x ≡ y)
+same_shown ps kind.equivalent s r x y f g = (f.0 ∙ sym g.0, f.1 ∙ sym g.1)
+same_shown ps (kind.refines k) s r x y f g = same_lines ps k Refines s r refines_lines x y f g
+same_shown ps (kind.unmatched k) s r x y f g = same_lines ps k Unmatched s r unmatched_lines x y f g
+same_shown ps (kind.ungrounded k test) s r x y f g = same_lines ps k NotGrounded s r (not_grounded_lines test) x y f g
 
 same_judged : (t : FiveTexts) (n : ℕ) (q p : Problem) (s r : Status) (x y : List ℕ) → AreTextsOf t q → AreTextsOf t p → IsJudged q n s x → IsJudged p n r y → (s ≡ r) × (x ≡ y)
-same_judged t n q p _ _ _ _ a b (yes v) (yes w) = (refl, refl)
-same_judged t n q p _ _ _ _ a b (yes v) (no w) = absurd (w (verdict_of_texts t n q p a b v))
-same_judged t n q p _ _ _ _ a b (no v) (yes w) = absurd (v (verdict_of_texts t n p q b a w))
-same_judged t n q p _ _ _ _ a b (no v) (no w) = (refl, refl)
+same_judged t n q p s r x y a b i j =
+    let f = kind_of_judged q n s x i in
+    let g = kind_of_judged p n r y j in
+    let k : f.0 ≡ g.0 = one_verdict p n f.0 g.0 (verdict_of_texts t q p a b n f.0 f.1) g.1 in
+    let shown : IsShown p.points.points g.0 s x = subst (λ (l : Kind). IsShown p.points.points l s x) k (subst (λ (c : Points). IsShown c.points f.0 s x) (points_of_texts t q p a b) f.2) in
+    same_shown p.points.points g.0 s r x y shown g.2
 
 same_ends : (t : FiveTexts) (n : ℕ) (s r : Status) (x y : List ℕ) → CheckEnds t n s x → CheckEnds t n r y → (s ≡ r) × (x ≡ y)
 same_ends t n _ _ _ _ (unread a u) (unread b w) = (refl, ap unread_line (same_role t a b u w))

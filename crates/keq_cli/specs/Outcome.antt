@@ -1,22 +1,25 @@
 -- How what was asked for ends, and what is reported.
 use Rattle.std.specs.Prelude.{◌≡◌, ℕ, List, Option, None, Some, IsSome, ⊤}
 use Rattle.std.specs.FinMap.{get}
+use Rattle.sort_term.specs.declared.points.Point.{Point}
 use Rattle.sort_term.specs.declared.points.Points.{Points}
 use Rattle.sort_term.specs.declared.problem.Problem.{Problem}
 use Rattle.sort_term.specs.Step.{Tables}
 use Rattle.sort_term.specs.System.{System}
-use Rattle.sort_term.specs.Verdict.{IsVerdict, equivalent}
+use Rattle.sort_term.specs.Simulation.{IsPoint, Test}
+use Rattle.sort_term.specs.Verdict.{IsVerdict}
+use Rattle.sort_term.specs.Verdict as kind
 use Rattle.semantics_load.specs.Text.{IsSemanticsText}
 use Rattle.program_text.specs.Text.{IsProgramText}
 use Rattle.sync_points.specs.Text.{IsPointsText}
 use Rattle.keq_cli.specs.Outside.{FileMap, IsTaken, IsFrontTaken}
 use Rattle.keq_cli.specs.Words.{Names, Command, Check}
-use Rattle.keq_cli.specs.Reports.{equivalent_line, not_equivalent_line, unread_line, bad_words_line}
+use Rattle.keq_cli.specs.Reports.{equivalent_line, refines_lines, unmatched_lines, not_grounded_lines, unread_line, bad_words_line}
 use Rattle.keq_cli.specs.declared.texts.Role.{Role}
 use Rattle.keq_cli.specs.declared.texts.Role.TheVariants.{LeftSemantics, RightSemantics, LeftProgram, RightProgram, Points as PointsRole}
 use Rattle.keq_cli.specs.declared.texts.Texts.{Texts}
 use Rattle.keq_cli.specs.declared.status.Status.{Status}
-use Rattle.keq_cli.specs.declared.status.Status.TheVariants.{Equivalent, Refused, Usage}
+use Rattle.keq_cli.specs.declared.status.Status.TheVariants.{Equivalent, Refines, Unmatched, NotGrounded, Refused, Usage}
 
 -- the five texts of a check
 pub record FiveTexts : Type 0 where
@@ -55,10 +58,12 @@ pub record AreTextsOf (t : FiveTexts) (q : Problem) : Type 0 where
   pub right_program : IsProgramText q.right t.right_program q.right_program
   pub points : IsPointsText q.left q.right t.points q.points
 
--- how a problem is judged for a number of steps
+-- how a problem is judged for a number of steps: the status and the report of its verdict
 pub data IsJudged (q : Problem) (steps : ℕ) : Status → List ℕ → Type 0 where
-  yes : IsVerdict q steps equivalent → IsJudged q steps Equivalent equivalent_line
-  no : ¬ IsVerdict q steps equivalent → IsJudged q steps Refused not_equivalent_line
+  equivalent : IsVerdict q steps kind.equivalent → IsJudged q steps Equivalent equivalent_line
+  refines : (k : ℕ) (p : Point) → IsVerdict q steps (kind.refines k) → IsPoint q k p → IsJudged q steps Refines (refines_lines p.name)
+  unmatched : (k : ℕ) (p : Point) → IsVerdict q steps (kind.unmatched k) → IsPoint q k p → IsJudged q steps Unmatched (unmatched_lines p.name)
+  not_grounded : (k : ℕ) (test : Test) (p : Point) → IsVerdict q steps (kind.ungrounded k test) → IsPoint q k p → IsJudged q steps NotGrounded (not_grounded_lines test p.name)
 
 -- how a check of five texts ends
 pub data CheckEnds (t : FiveTexts) (steps : ℕ) : Status → List ℕ → Type 0 where

@@ -1,10 +1,11 @@
 -- What a call reports.
 use Rattle.std.specs.Prelude.{ℕ, List, ◌++◌, Option, codes}
 use Rattle.keq_cli.specs.Outside.{IsTaken, IsFrontTaken}
+use Rattle.sort_term.specs.Simulation.{Test, void, outside, long, halted}
 use Rattle.keq_cli.specs.declared.texts.Role.{Role}
 use Rattle.keq_cli.specs.declared.texts.Role.TheVariants.{LeftSemantics, RightSemantics, LeftProgram, RightProgram, Points}
 use Rattle.keq_cli.specs.declared.status.Status.{Status}
-use Rattle.keq_cli.specs.declared.status.Status.TheVariants.{Equivalent, Refused, Usage}
+use Rattle.keq_cli.specs.declared.status.Status.TheVariants.{Equivalent, Refines, Unmatched, NotGrounded, Refused, Usage}
 
 -- the name of a text in a report
 abbrev pub role_name : Role → List ℕ
@@ -14,13 +15,35 @@ role_name LeftProgram = codes "left-program"
 role_name RightProgram = codes "right-program"
 role_name Points = codes "points"
 
--- the report of points that denote a grounded cut-bisimulation, of points that don't, and of a text that doesn't load
+-- the line that names a point
+abbrev pub point_line : List ℕ → List ℕ
+point_line name = codes "point " ++ name ++ codes "\n"
+
+-- the word for a test
+abbrev pub test_word : Test → List ℕ
+test_word void = codes "void"
+test_word (outside side) = codes "outside"
+test_word (long side) = codes "long"
+test_word (halted side) = codes "halted"
+
+-- the report of points that denote a grounded cut-bisimulation
 abbrev pub equivalent_line : List ℕ
 equivalent_line = codes "equivalent\n"
 
-abbrev pub not_equivalent_line : List ℕ
-not_equivalent_line = codes "refused points not-equivalent\n"
+-- of points whose verdict is refines, unmatched, or not grounded by a test, at the point with this name
+abbrev pub refines_lines : List ℕ → List ℕ
+refines_lines name = codes "refines\n" ++ point_line name
 
+abbrev pub unmatched_lines : List ℕ → List ℕ
+unmatched_lines name = codes "unmatched\n" ++ point_line name
+
+abbrev pub not_grounded_line : Test → List ℕ
+not_grounded_line test = codes "not grounded: " ++ test_word test ++ codes "\n"
+
+abbrev pub not_grounded_lines : Test → List ℕ → List ℕ
+not_grounded_lines test name = not_grounded_line test ++ point_line name
+
+-- of a text that doesn't load
 abbrev pub unread_line : Role → List ℕ
 unread_line role = codes "refused " ++ role_name role ++ codes " unread\n"
 
@@ -31,8 +54,10 @@ bad_words_line = codes "bad command line\n"
 -- a call that ends with this status reports this text
 pub data IsReport : Status → List ℕ → Type 0 where
   equivalent : IsReport Equivalent equivalent_line
+  refines : (name : List ℕ) → IsReport Refines (refines_lines name)
+  unmatched : (name : List ℕ) → IsReport Unmatched (unmatched_lines name)
+  not_grounded : (test : Test) (name : List ℕ) → IsReport NotGrounded (not_grounded_lines test name)
   unread : (role : Role) → IsReport Refused (unread_line role)
-  not_equivalent : IsReport Refused not_equivalent_line
   bad_words : IsReport Usage bad_words_line
 
 -- a whole report of this status was taken

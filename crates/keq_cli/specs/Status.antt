@@ -1,11 +1,14 @@
 -- How a call ends.
 use Rattle.std.specs.Prelude.{ℕ, ⊤}
 use Rattle.keq_cli.specs.declared.status.Status.{Status}
-use Rattle.keq_cli.specs.declared.status.Status.TheVariants.{Equivalent, Refused, ReadFault, WriteFault, NoMemory, Usage}
+use Rattle.keq_cli.specs.declared.status.Status.TheVariants.{Equivalent, Refines, Unmatched, NotGrounded, Refused, ReadFault, WriteFault, NoMemory, Usage}
 
 -- the number that the process ends with
 abbrev pub code_of : Status → ℕ
 code_of Equivalent = 0
+code_of Refines = 1
+code_of Unmatched = 2
+code_of NotGrounded = 3
 code_of Refused = 4
 code_of ReadFault = 5
 code_of WriteFault = 6

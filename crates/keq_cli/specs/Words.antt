@@ -26,8 +26,16 @@ is_steps word = nat_le (length word) 5 && all_ascii_digits word && nat_le 1 (dig
 abbrev pub steps_of : List ℕ → Option ℕ
 steps_of word = if is_steps word then Some (digits_value 10 word) else None
 
+-- the number of steps where none is given
+abbrev pub usual_steps : ℕ
+usual_steps = 1000
+
 -- what the words ask for; None where they have none of the forms
 abbrev pub command_of : List (List ℕ) → Option Command
+command_of (verb ∷ ls ∷ rs ∷ lp ∷ rp ∷ pts ∷ []) =
+    if bytes_eq verb (codes "check")
+    then Some (Check (record { left_semantics = ls; right_semantics = rs; left_program = lp; right_program = rp; points = pts }) usual_steps)
+    else None
 command_of (verb ∷ ls ∷ rs ∷ lp ∷ rp ∷ pts ∷ steps ∷ []) =
     if bytes_eq verb (codes "check")
     then option_map (Check (record { left_semantics = ls; right_semantics = rs; left_program = lp; right_program = rp; points = pts })) (steps_of steps)

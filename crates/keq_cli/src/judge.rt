@@ -1,15 +1,17 @@
 // Loads five texts and judges what they say.
-ghost use Rattle.std.specs.Prelude.{◌≡◌, ◌≤◌, All, IfOk};
+ghost use Rattle.std.specs.Prelude.{◌≡◌, ◌<◌, ◌≤◌, ◌++◌, All, IfOk, Some, length, slice_get};
+ghost use Rattle.sort_term.specs.declared.points.Point.{Point};
 ghost use Rattle.ground_judge.specs.Ground.{IsGroundPoint};
+ghost use Rattle.ground_judge.specs.Kinds.{test_of};
 ghost use Rattle.keq_cli.specs.Outcome.{CheckEnds, IsJudged, texts_of};
-ghost use Rattle.keq_cli.specs.Reports.{unread_line};
+ghost use Rattle.keq_cli.specs.Reports.{not_grounded_line, point_line, unread_line};
 ghost use Rattle.keq_cli.specs.declared.status.Status.{Status};
 
 use crate::loading::{Unloaded, load_all};
 use crate::texts::{Role, Texts};
 use crate::{NoMemory, Status};
-use ground_judge::is_equivalent;
-use sort_term::Problem;
+use ground_judge::{FailedTest, VerdictKind};
+use sort_term::{Point, Problem};
 use std::alloc::Global;
 
 /// How a call ended, and its report.
@@ -37,16 +39,49 @@ fn judged(alloc: Global, problem: &Problem, steps: u32) -> Result<Ended, NoMemor
     requires steps { 1 ≤ steps }
     ensures { IfOk result (λ ended. IsJudged problem.now steps ended.status ended.report.items) }
 {
-    if is_equivalent(alloc, problem, steps)? {
-        return Ok(Ended {
+    let points = problem.points.points.as_slice();
+    match ground_judge::judge(alloc, problem, steps)? {
+        VerdictKind::Equivalent => Ok(Ended {
             status: Status::Equivalent,
             report: Vec::from_slice(alloc, b"equivalent\n")?,
-        });
+        }),
+        VerdictKind::Refines { point } => Ok(Ended {
+            status: Status::Refines,
+            report: report_at(alloc, "refines\n", points, point)?,
+        }),
+        VerdictKind::Unmatched { point } => Ok(Ended {
+            status: Status::Unmatched,
+            report: report_at(alloc, "unmatched\n", points, point)?,
+        }),
+        VerdictKind::NotGrounded { point, test } => Ok(Ended {
+            status: Status::NotGrounded,
+            report: report_at(alloc, not_grounded_line(test), points, point)?,
+        }),
     }
-    Ok(Ended {
-        status: Status::Refused,
-        report: Vec::from_slice(alloc, b"refused points not-equivalent\n")?,
-    })
+}
+
+// The line of a point that isn't grounded.
+fn not_grounded_line(test: FailedTest) -> &'static str
+    ensures { result.now ≡ not_grounded_line (test_of test) }
+{
+    match test {
+        FailedTest::Void => "not grounded: void\n",
+        FailedTest::Outside(_) => "not grounded: outside\n",
+        FailedTest::Long(_) => "not grounded: long\n",
+        FailedTest::Halted(_) => "not grounded: halted\n",
+    }
+}
+
+// A line, and the line that names a point.
+fn report_at(alloc: Global, line: &str, points: &[Point], place: usize) -> Result<Vec<u8>, NoMemory>
+    requires { place < length points.now }
+    ensures { IfOk result (λ report. (p : Point) → slice_get points.now place ≡ Some p → report.items ≡ line.now ++ point_line p.name) }
+{
+    let mut report = Vec::from_slice(alloc, line.as_bytes())?;
+    report.extend_from_slice(b"point ")?;
+    report.extend_from_slice(points[place].name.as_slice())?;
+    report.push(b'\n')?;
+    Ok(report)
 }
 
 // The refusal of a text that does not load.

@@ -5,9 +5,16 @@ ghost use Rattle.keq_cli.specs.Status.{code_of};
 /// How a call of the program ends.
 #[derive(Clone, Copy, Debug, PartialEq, Eq)]
 pub enum Status {
-    /// The points are judged to be a cut-bisimulation of the two systems.
+    /// The relation that the points denote is a grounded cut-bisimulation of the two systems.
     Equivalent,
-    /// A text does not load, or the points are judged otherwise. The report says which.
+    /// It is a grounded cut-simulation of the right system by the left one alone. The report names the first point where the
+    /// left has a cut successor without a partner.
+    Refines,
+    /// It is grounded. The report names the first point where the right has a cut successor without a partner.
+    Unmatched,
+    /// It isn't grounded. The report names the first point that isn't, and the test that it has.
+    NotGrounded,
+    /// A text does not load. The report says which is the first.
     Refused,
     /// A text could not be fetched. Nothing was written.
     ReadFault,
@@ -26,6 +33,9 @@ impl Status {
     {
         match self {
             Status::Equivalent => 0,
+            Status::Refines => 1,
+            Status::Unmatched => 2,
+            Status::NotGrounded => 3,
             Status::Refused => 4,
             Status::ReadFault => 5,
             Status::WriteFault => 6,

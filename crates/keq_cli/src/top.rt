@@ -16,7 +16,7 @@ use std::alloc::Global;
 ///
 /// `words` are those of the command line without the program's name. The one form is
 /// `check LEFT-SEMANTICS RIGHT-SEMANTICS LEFT-PROGRAM RIGHT-PROGRAM POINTS STEPS`; STEPS is one to five ASCII digits
-/// with a value from 1 to 10,000. All fetches come before the first text is loaded, in the order of the words. The
+/// with a value from 1 to 10,000, and 1,000 where it is left out. All fetches come before the first text is loaded, in the order of the words. The
 /// first that fails ends the call.
 ///
 /// What the clauses say of the bytes taken holds where the sink tells them, and what they say of the texts held where

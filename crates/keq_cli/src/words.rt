@@ -4,6 +4,9 @@ ghost use Rattle.std.specs.Option.{option_map};
 ghost use Rattle.keq_cli.specs.Words.{asked, steps_of};
 ghost use Rattle.keq_cli.specs.Asked.{check_view};
 
+// How many steps a run may take where the words don't say.
+const USUAL_STEPS: u32 = 1000;
+
 /// The words of a check: the names of its five files, and its bound on runs.
 #[derive(Clone, Copy, Debug)]
 pub struct Check<'a> {
@@ -22,6 +25,16 @@ pub fn parse_words<'a>(words: &'a [String]) -> Option<Check<'a>>
     ensures steps { IfSome result (λ check. 1 ≤ check.steps) }
 {
     match words {
+        [verb, ls, rs, lp, rp, pts] if verb.as_str() == "check" => {
+            Some(Check {
+                left_semantics: ls.as_str(),
+                right_semantics: rs.as_str(),
+                left_program: lp.as_str(),
+                right_program: rp.as_str(),
+                points: pts.as_str(),
+                steps: USUAL_STEPS,
+            })
+        }
         [verb, ls, rs, lp, rp, pts, steps] if verb.as_str() == "check" => {
             Some(Check {
                 left_semantics: ls.as_str(),
