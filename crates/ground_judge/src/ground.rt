@@ -39,7 +39,7 @@ pub fn related_pair(
     ensures left { IfOk result (λ pair. IsState problem.now.left pair.0.term) }
     ensures right { IfOk result (λ pair. IsState problem.now.right pair.1.term) }
 {
-    match point_states(alloc, point)? {
+    match point_states(alloc, problem, point)? {
         Some(pair) => Ok(pair),
         None => unreachable!(),
     }

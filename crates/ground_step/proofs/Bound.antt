@@ -77,21 +77,6 @@ narrows_stop old mid new P Q R n m imp = record {
       absurd (cc);
 }
 
--- a no stays one of what is more
-pub narrows_none : (old mid new : Bound) (P R : Trees → Type 0) → Narrows old mid false P → length new ≡ length mid → ((v : Trees) → R v → P v) → Narrows old new false R
-narrows_none old mid new P R n l imp = record {
-  keeps = l ∙ n.keeps;
-  sound = λ v a y. absurd (cc);
-  complete = λ v a r. let h : false ≡ true = (n.complete v a (imp v r)).0 in absurd (cc);
-}
-
-pub narrows_same : (bs : Bound) (P : Trees → Type 0) → ((v : Trees) → P v) → Narrows bs bs true P
-narrows_same bs P p = record {
-  keeps = refl;
-  sound = λ v a y. (a, p v);
-  complete = λ v a r. (refl, a);
-}
-
 pub parts_of : {A B : Type 0} (f : A → B) (ps : List A) (ts : List B) (i : ℕ) (p : A) (t : B) → p ≡ slice_index_or ps i p → t ≡ slice_index_or ts i t → i < length ps → map f ps ≡ ts → (map f (take i ps) ≡ take i ts) × (f p ≡ t)
 parts_of f [] ts i p t ep et l h = absurd (omega arith)
 parts_of f (q ∷ ps) [] i p t ep et l h = absurd (cc)

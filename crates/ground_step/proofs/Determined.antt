@@ -1,5 +1,5 @@
 -- What a tree determines of the variables of a term that has it as its value.
-use Rattle.std.proofs.Common.{arith, ◌≡◌, ℕ, ◌+◌, ◌<◌, ◌≤◌, Bool, true, false, ◌||◌, IsTrue, List, [], ◌∷◌, ◌++◌, length, map, take, get_or, slice_get, Option, Some, None, All, refl, sym, ap, ◌∙◌, subst, ◌⊎◌, inl, inr}
+use Rattle.std.proofs.Common.{arith, ◌≡◌, ℕ, zero, suc, ◌+◌, ◌<◌, ◌≤◌, Bool, true, false, ◌||◌, IsTrue, List, [], ◌∷◌, ◌++◌, length, map, take, get_or, slice_get, Option, Some, None, All, refl, sym, ap, ◌∙◌, subst, ◌⊎◌, inl, inr}
 use Rattle.std.specs.List.{list_any}
 use Rattle.std.proofs.lemmas.Bool.Decides.{Decides-eqb}
 use Rattle.std.proofs.lemmas.List.{take_more, length-take-le, map-append}
@@ -19,7 +19,7 @@ use Rattle.sort_term.specs.declared.rule.RuleExpr.{RuleExpr}
 use Rattle.sort_term.specs.declared.rule.RuleExpr.TheVariants as expr
 use Rattle.sort_term.specs.Tree.{Tree, Trees, no_tree, tree_at, value}
 use Rattle.sort_term.specs.Sorted.{tree_sort, expr_sort}
-use Rattle.sort_term.specs.Stands.{argument_of}
+use Rattle.sort_term.specs.Stands.{reads, argument_of}
 use Rattle.sort_term.proofs.Each.{Each}
 use Rattle.sort_term.proofs.Agreeing.{con_same}
 use Rattle.sort_term.proofs.Equations.{value-Var, value-Con, expr_sort-Var, expr_sort-Con, tree_sort-Con, reads-Var, reads-Con, argument_of-Var, argument_of-Lit, argument_of-Op, argument_of-Con}
@@ -30,7 +30,20 @@ use Rattle.ground_step.specs.Fit.{ReadsWithin, is_part, is_part_of, Determines, 
 use Rattle.ground_step.proofs.Bound.{agrees_at, fill, fill_agrees, fill_at, parts_of}
 use Rattle.sort_term.proofs.Parts.{con_parts}
 use Rattle.sort_term.proofs.PartSorts.{op_parts_of}
-use Rattle.ground_step.proofs.Evaluated.{any_at}
+
+or_left : (a b : Bool) → IsTrue a → IsTrue (a || b)
+or_left true b h = refl
+or_left false b h = absurd (cc)
+
+or_right : (a b : Bool) → IsTrue b → IsTrue (a || b)
+or_right true b h = refl
+or_right false b h = h
+
+-- what is read in one of several expressions
+any_at : (i : ℕ) (es : List RuleExpr) (k : ℕ) (d : RuleExpr) → k < length es → IsTrue (reads i (get_or es k d)) → IsTrue (list_any (λ part. part) (map (reads i) es))
+any_at i [] k d l h = absurd (omega arith)
+any_at i (e ∷ es) zero d l h = or_left (reads i e) _ h
+any_at i (e ∷ es) (suc k) d l h = or_right (reads i e) _ (any_at i es k d (omega arith) h)
 
 -- a variable to which all valuations that agree give one tree is bound to it
 pub is_bound : (bs : Bound) (i : ℕ) (t : Tree) → i < length bs → ((v : Trees) → Agrees bs v → tree_at v i ≡ t) → slice_get bs i ≡ Some (Some t)

@@ -1,9 +1,8 @@
 pub mod Lists
 pub mod Bound
-pub mod Within
 pub mod Evaluated
-pub mod Knowing
-pub mod Instances
+pub mod Taken
+pub mod Covered
 pub mod Cutting
 pub mod Listing
 pub mod Exactly

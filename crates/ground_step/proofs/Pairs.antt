@@ -2,11 +2,14 @@
 use Rattle.std.proofs.Common.{rules, arith, ◌≡◌, ℕ, zero, suc, ◌+◌, ◌<◌, ◌≤◌, Bool, true, false, ◌||◌, IsTrue, List, [], ◌∷◌, ◌++◌, length, map, take, get_or, slice_get, Option, Some, None, IsSome, All, refl, sym, ap, ◌∙◌, subst, ◌⊎◌, inl, inr}
 use Rattle.std.specs.Prelude.{replicate}
 use Rattle.std.proofs.lemmas.Bool.{cases_lt}
-use Rattle.std.proofs.lemmas.List.{length-replicate, map-append, take_more}
+use Rattle.std.proofs.lemmas.List.{length-map, length-replicate, map-append, take_more}
 use Rattle.std.proofs.lemmas.List.Elements.{All-head, All-tail}
 use Rattle.std.proofs.lemmas.Option.{slice_get_within, get_or_from_slice_get}
 use Rattle.data_value.specs.declared.DataSort.{DataSort}
+use Rattle.data_value.specs.declared.DataSort.TheVariants.{Bool as BoolSort}
+use Rattle.data_value.specs.declared.Op.{Op}
 use Rattle.data_value.specs.declared.Value.{Value}
+use Rattle.data_value.specs.Ground.{ground_seen}
 use Rattle.sort_term.specs.declared.ids.ConId.{ConId}
 use Rattle.sort_term.specs.declared.term.Sort.{Sort}
 use Rattle.sort_term.specs.declared.term.Sort.TheVariants.{Own, Plain}
@@ -15,25 +18,33 @@ use Rattle.sort_term.specs.declared.semantics.Con.{Con}
 use Rattle.sort_term.specs.declared.points.Point.{Point}
 use Rattle.sort_term.specs.declared.rule.Var.{Var}
 use Rattle.sort_term.specs.declared.rule.RuleExpr.{RuleExpr}
+use Rattle.sort_term.specs.declared.rule.RuleExpr.TheVariants as expr
 use Rattle.sort_term.specs.System.{System}
 use Rattle.sort_term.specs.Tree.{Tree, Trees, plain_of, value}
-use Rattle.sort_term.specs.Sorted.{var_sort, tree_sort, expr_sort}
+use Rattle.sort_term.specs.Sorted.{applied_sort, var_sort, tree_sort, expr_sort}
 use Rattle.sort_term.specs.Signature.{is_plain}
 use Rattle.sort_term.specs.Stands.{is_argument, argument_of}
 use Rattle.sort_term.specs.Step.{IsState}
 use Rattle.sort_term.specs.Cuts.{AllTrue}
 use Rattle.sort_term.specs.Fits.{IsPointOf}
 use Rattle.sort_term.specs.Relation.{Relates, Related}
+use Rattle.sort_term.specs.NodeTerms.{seen_sort}
 use Rattle.sort_term.proofs.Agreeing.{fits_long}
-use Rattle.sort_term.proofs.Equations.{tree_sort-Plain, tree_sort-Con, plain_of-Plain}
-use Rattle.sort_term.proofs.Induction.{term_ind}
+use Rattle.sort_term.proofs.Each.{Each}
+use Rattle.sort_term.proofs.Equations.{expr_sort-Var, expr_sort-Lit, expr_sort-Op, expr_sort-Con, tree_sort-Plain, tree_sort-Con, plain_of-Plain}
+use Rattle.sort_term.proofs.GroundTerms.{ground_sort}
+use Rattle.sort_term.proofs.Induction.{expr_ind, term_ind}
 use Rattle.ground_step.specs.Binds.{Bound, Agrees, Narrows}
 use Rattle.ground_step.specs.Ready.{IsKnown, IsReady}
 use Rattle.ground_step.specs.Fit.{ReadsWithin, Determines, IsValueBound, some_plain, plain_trees, IsOnlyFit, RelationIs}
 use Rattle.ground_step.proofs.Bound.{agrees_none, agrees_at, agrees_long}
 use Rattle.sort_term.proofs.Parts.{con_parts}
+use Rattle.sort_term.proofs.PartSorts.{op_parts_of}
+use Rattle.unify.specs.Binds.{AreBinds}
+use Rattle.unify.proofs.Evaluated.{bound_seen}
 use Rattle.sort_term.proofs.Declared.{declares, fits_each}
 use Rattle.ground_step.proofs.Determined.{stays_known}
+use Rattle.ground_step.proofs.Evaluated.{nodes, tree_there}
 
 or_right : (a b : Bool) → IsTrue b → IsTrue (a || b)
 or_right true b h = refl
@@ -86,10 +97,48 @@ agrees_only (x ∷ values) (t ∷ v) a =
     cc
 
 -- an expression over no variables is ready
-pub ready_alone : (cons : List Con) (vars : List Var) (e : RuleExpr) (s : Sort) (bs : Bound) → expr_sort cons vars e ≡ Some s → vars ≡ [] → IsReady bs e
-ready_alone cons vars e s bs h none =
+pub ready_alone : (cons : List Con) (vars : List Var) (e : RuleExpr) (s : Sort) → expr_sort cons vars e ≡ Some s → vars ≡ [] → IsReady cons [] e
+ready_alone cons vars e s h none =
     let some : IsSome (expr_sort cons vars e) = subst IsSome (sym h) (search rules) in
-    record { cons = cons; vars = vars; sorted = some; known = λ i r. absurd (let l = declares cons vars e some i r in let z : length vars ≡ 0 = ap length none in omega arith) }
+    record {
+      vars = vars;
+      binds = record { long = sym (ap length none); sorted = λ i t q. absurd (cc) };
+      sorted = some;
+      known = λ i r. absurd (let l = declares cons vars e some i r in let z : length vars ≡ 0 = ap length none in omega arith);
+    }
+
+-- an expression that has a sort where no constructor is known has it whatever the constructors
+module _ (cons : List Con) (vars : List Var) where
+  abbrev SortStays : RuleExpr → Type 0
+  SortStays e = (s : Sort) → expr_sort [] vars e ≡ Some s → expr_sort cons vars e ≡ Some s
+
+  each_stays : (es : List RuleExpr) → Each SortStays es → (ds : List DataSort) → map (expr_sort [] vars) es ≡ map (λ d. Some (Plain d)) ds → map (expr_sort cons vars) es ≡ map (expr_sort [] vars) es
+  each_stays [] k ds h = refl
+  each_stays (e ∷ es) k [] h = absurd (cc)
+  each_stays (e ∷ es) k (d ∷ ds) h =
+      let q : expr_sort [] vars e ≡ Some (Plain d) = cc in
+      let more : map (expr_sort [] vars) es ≡ map (λ x. Some (Plain x)) ds = cc in
+      let here : expr_sort cons vars e ≡ expr_sort [] vars e = k.0 (Plain d) q ∙ sym q in
+      let rest = each_stays es k.1 ds more in
+      cc
+
+  op_stays : (op : Op) (es : List RuleExpr) → Each SortStays es → SortStays (expr.Op op es)
+  op_stays op es k s h =
+      let p = op_parts_of [] vars op es s h in
+      expr_sort-Op cons vars op es ∙ ap (applied_sort op) (each_stays es k p.args p.sorts) ∙ sym (expr_sort-Op [] vars op es) ∙ h
+
+  con_stays : (k : ConId) (es : List RuleExpr) → SortStays (expr.Con k es)
+  con_stays k es s h =
+      let p = con_parts (slice_get [] k.0) (map (expr_sort [] vars) es) s (sym (expr_sort-Con [] vars k es) ∙ h) in
+      let q : None ≡ Some p.con = p.is_con in
+      absurd (cc)
+
+  sort_stays : (e : RuleExpr) → SortStays e
+  sort_stays = expr_ind SortStays
+      (λ i s h. expr_sort-Var cons vars i ∙ sym (expr_sort-Var [] vars i) ∙ h)
+      (λ x s h. expr_sort-Lit cons vars x ∙ sym (expr_sort-Lit [] vars x) ∙ h)
+      op_stays
+      (λ k es e. con_stays k es)
 
 module _ (l r : System) (p : Point) (a b : Tree) (checked : IsPointOf l r p) (sa : IsState l a) (sb : IsState r b) where
   left_sorted : IsSome (expr_sort l.cons p.vars p.left)
@@ -137,17 +186,36 @@ module _ (l r : System) (p : Point) (a b : Tree) (checked : IsPointOf l r p) (sa
               to_any l.cons cons i m (stays_known l.cons p.vars mid new i dr.keeps (λ v x. dr.sound v x refl) (dl.known refl l.cons p.vars (Own l.config) checked.left_term.is sa.is i (or_right (argument_of i p.left).0 (argument_of i p.left).1 h)))
           go (inr h) = to_any r.cons cons i m (dr.known refl r.cons p.vars (Own r.config) checked.right_term.is sb.is i (or_right (argument_of i p.right).0 (argument_of i p.right).1 h))
 
-      ready : (cons : List Con) (e : RuleExpr) → IsSome (expr_sort cons p.vars e) → IsReady new e
-      ready cons e h = record { cons = cons; vars = p.vars; sorted = h; known = λ i x. known cons i (declares cons p.vars e h i x) }
+      -- each variable has a tree of its sort
+      all_known : (cons : List Con) → AreBinds cons p.vars (nodes new)
+      all_known cons = record {
+        long = length-map new _ ∙ as_many;
+        sorted = λ i t h.
+            let u = tree_there new i t h in
+            let k = known cons i (let m = slice_get_within new i (Some u.0) u.1 in subst (λ n. i < n) as_many m) in
+            let q : Some (Some u.0) ≡ Some (Some k.tree) = sym u.1 ∙ k.there in
+            let is : u.0 ≡ k.tree = cc in
+            ap (seen_sort cons) u.2 ∙ ground_sort cons u.0 ∙ ap (tree_sort cons) is ∙ k.sorted;
+      }
 
-      pub left_ready : IsReady new p.left
+      ready : (cons : List Con) (e : RuleExpr) → IsSome (expr_sort cons p.vars e) → IsReady cons new e
+      ready cons e h = record {
+        vars = p.vars;
+        binds = all_known cons;
+        sorted = h;
+        known = λ i x. let k = known cons i (declares cons p.vars e h i x) in subst IsSome (sym (bound_seen ground_seen new i k.tree k.there)) refl;
+      }
+
+      pub left_ready : IsReady l.cons new p.left
       left_ready = ready l.cons p.left left_sorted
 
-      pub right_ready : IsReady new p.right
+      pub right_ready : IsReady r.cons new p.right
       right_ready = ready r.cons p.right right_sorted
 
-      pub whens_ready : All (IsReady new) p.whens
-      whens_ready k d m = ready [] (get_or p.whens k d) (subst IsSome (sym (checked.whens.sorted k d m).is) (search rules))
+      pub whens_ready : All (IsReady l.cons new) p.whens
+      whens_ready k d m =
+          let is = sort_stays l.cons p.vars (get_or p.whens k d) (Plain BoolSort) (checked.whens.sorted k d m).is in
+          ready l.cons (get_or p.whens k d) (subst IsSome (sym is) (search rules))
 
       pub values_bound : All IsValueBound new
       values_bound i d m =

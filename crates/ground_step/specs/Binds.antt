@@ -1,9 +1,7 @@
 -- Variables that are bound so far, and what is known of the valuations that agree with them.
-use Rattle.std.specs.Prelude.{◌≡◌, Bool, IsTrue, List, [], ◌∷◌, length, map, Option, Some, None}
+use Rattle.std.specs.Prelude.{◌≡◌, Bool, IsTrue, List, [], ◌∷◌, length, Option, Some, None}
 use Rattle.sort_term.specs.declared.rule.RuleExpr.{RuleExpr}
-use Rattle.sort_term.specs.declared.rule.Source.{Source}
 use Rattle.sort_term.specs.Tree.{Tree, Trees, value}
-use Rattle.sort_term.specs.Step.{Tables, source_value}
 
 -- for each variable its tree, where it is bound
 abbrev pub Bound : Type 0
@@ -26,11 +24,3 @@ pub record Narrows (old new : Bound) (ok : Bool) (P : Trees → Type 0) : Type 0
 -- the expression's value is t under each valuation that agrees with the bound variables
 pub record Gives (bound : Bound) (e : RuleExpr) (t : Tree) : Type 0 where
   pub gives : (v : Trees) → Agrees bound v → value v e ≡ t
-
--- the same of several expressions
-pub record GiveAll (bound : Bound) (es : List RuleExpr) (ts : Trees) : Type 0 where
-  pub give : (v : Trees) → Agrees bound v → map (value v) es ≡ ts
-
--- the value of the right side of a `let`, or that there is none, under each valuation that agrees
-pub record SourceGives (tables : Tables) (bound : Bound) (s : Source) (o : Option Tree) : Type 0 where
-  pub gives : (v : Trees) → Agrees bound v → source_value tables v s ≡ o

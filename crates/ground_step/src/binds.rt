@@ -1,32 +1,18 @@
 // Variables and the trees that they are bound to.
-ghost use Rattle.std.specs.Prelude.{◌≡◌, ◌<◌, IfOk, None, Some, length, replicate, slice_get};
+ghost use Rattle.std.specs.Prelude.{◌≡◌, ◌<◌, IfOk, None, Some, length, slice_get};
 ghost use Rattle.sort_term.specs.Tree.{tree_at};
 ghost use Rattle.ground_step.specs.Binds.{Narrows};
 
 use data_value::Value;
 use no_memory::NoMemory;
 use sort_term::{Term, copy_term, same_term};
-use sqlite_items::Items;
 use std::alloc::Global;
-
-/// For each variable its tree, where it is bound already.
-pub type Binds = Items<Option<Term<Value>>>;
-
-/// No variable is bound.
-pub fn unbound(alloc: Global, count: usize) -> Result<Binds, NoMemory>
-    ensures { IfOk result (λ binds. binds ≡ replicate count None) }
-{
-    let mut binds = Items::new(alloc);
-    for _variable in 0..count {
-        binds.push(None)?;
-    }
-    Ok(binds)
-}
+use unify::Binds;
 
 // Binds a variable that isn't bound yet.
 fn bind_new(
     alloc: Global,
-    binds: &mut Binds,
+    binds: &mut Binds<Value>,
     variable: usize,
     tree: &Term<Value>,
 ) -> Result<bool, NoMemory>
@@ -41,7 +27,7 @@ fn bind_new(
 /// Binds a variable to a tree, or compares the tree with the one that it is bound to.
 pub fn bind(
     alloc: Global,
-    binds: &mut Binds,
+    binds: &mut Binds<Value>,
     variable: usize,
     tree: &Term<Value>,
 ) -> Result<bool, NoMemory>

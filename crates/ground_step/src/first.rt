@@ -8,7 +8,7 @@ ghost use Rattle.ground_step.specs.Reach.{FirstRunFrom, end_of, run_of};
 use crate::run::{Run, RunStep};
 use crate::steps::step;
 use no_memory::NoMemory;
-use sort_term::{Config, Program, RuleId, Semantics, Side, State};
+use sort_term::{Program, RuleId, Semantics, Side, State};
 use std::alloc::Global;
 
 /// A run that has come to its end.
@@ -61,11 +61,8 @@ fn first_step<S: Side>(
 {
     for place in 0..semantics.rules().len() {
         let rule = RuleId(place);
-        if let Some(tree) = step(alloc, semantics, program, rule, state.term())? {
-            return Ok(Some(RunStep {
-                rule,
-                state: Config::new(tree),
-            }));
+        if let Some(next) = step(alloc, semantics, program, rule, state)? {
+            return Ok(Some(RunStep { rule, state: next }));
         }
     }
     Ok(None)

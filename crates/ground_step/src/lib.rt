@@ -2,9 +2,8 @@
 #![tactic(auto)]
 
 mod binds;
-mod evaluation;
+mod conditions;
 mod first;
-mod matching;
 mod reach;
 mod relation;
 mod run;

@@ -1,21 +1,23 @@
 // The relation that the points denote.
 ghost use Rattle.std.specs.Prelude.{◌≡◌, ◌≢◌, ◌<◌, [], All, IfOk, MatchOption, Some, length, map, slice_get};
-ghost use Rattle.sort_term.specs.Tree.{value};
+ghost use Rattle.sort_term.specs.Tree.{plain_of, value};
 ghost use Rattle.sort_term.specs.Step.{IsState};
 ghost use Rattle.sort_term.specs.Fits.{IsPointOf};
 ghost use Rattle.sort_term.specs.Relation.{Related};
-ghost use Rattle.sort_term.specs.System.{System};
 ghost use Rattle.ground_step.specs.Binds.{Narrows};
 ghost use Rattle.ground_step.specs.Ready.{IsReady};
 ghost use Rattle.ground_step.specs.Fit.{AreOf, Determines, DeterminesAll, IsFirstFit, IsValueBound, ReadsWithin, RelationIs, some_plain};
 
-use crate::binds::{Binds, bind, unbound};
-use crate::evaluation::{all_hold, evaluate, plain_value};
-use data_value::{Valuation, Value};
+use crate::binds::bind;
+use crate::conditions::{all_hold, expression_tree};
+use data_value::{Scalar, Valuation, Value, copy_value};
 use no_memory::NoMemory;
-use sort_term::{Config, Left, Point, Problem, Right, RuleExpr, State, Term, same_term};
+use sort_term::{
+    Config, Left, Point, Problem, Right, RuleExpr, Semantics, Side, State, Term, same_term,
+};
 use sqlite_items::Items;
 use std::alloc::Global;
+use unify::{Binds, unbound};
 
 /// How a pair of states is related.
 #[derive(Drop)]
@@ -70,13 +72,13 @@ fn relates(
     if !determine(alloc, &point.right, right, &mut binds)? {
         return Ok(None);
     }
-    if !gives(alloc, &point.left, &binds, left)? {
+    if !gives(alloc, &problem.left, &point.left, &binds, left)? {
         return Ok(None);
     }
-    if !gives(alloc, &point.right, &binds, right)? {
+    if !gives(alloc, &problem.right, &point.right, &binds, right)? {
         return Ok(None);
     }
-    if !all_hold(alloc, point.whens.as_slice(), &binds)? {
+    if !all_hold(alloc, &problem.left, point.whens.as_slice(), &binds)? {
         return Ok(None);
     }
     Ok(Some(valuation(alloc, &binds)?))
@@ -89,7 +91,7 @@ fn determine(
     alloc: Global,
     term: &RuleExpr,
     tree: &Term<Value>,
-    binds: &mut Binds,
+    binds: &mut Binds<Value>,
 ) -> Result<bool, NoMemory>
     requires { ReadsWithin (length binds.old) term.now }
     ensures { IfOk result (λ ok. Determines binds.old binds.new ok term.now tree.now) }
@@ -116,7 +118,7 @@ fn determine_all(
     alloc: Global,
     terms: &[RuleExpr],
     trees: &[Term<Value>],
-    binds: &mut Binds,
+    binds: &mut Binds<Value>,
 ) -> Result<bool, NoMemory>
     requires { All (ReadsWithin (length binds.old)) terms.now }
     ensures { IfOk result (λ ok. DeterminesAll binds.old binds.new ok terms.now trees.now) }
@@ -133,21 +135,22 @@ fn determine_all(
 }
 
 // Whether the value of a term is this tree.
-fn gives(
+fn gives<S: Side>(
     alloc: Global,
+    semantics: &Semantics<S>,
     term: &RuleExpr,
-    binds: &Binds,
+    binds: &Binds<Value>,
     tree: &Term<Value>,
 ) -> Result<bool, NoMemory>
-    requires { IsReady binds.now term.now }
+    requires { IsReady semantics.now.cons binds.now term.now }
     ensures { IfOk result (λ ok. Narrows binds.now binds.now ok (λ v. value v term.now ≡ tree.now)) }
 {
-    let found = evaluate(alloc, term, binds)?;
+    let found = expression_tree(alloc, semantics, term, binds)?;
     Ok(same_term(&found, tree))
 }
 
 // The values of the variables, where each is bound to one.
-fn valuation(alloc: Global, binds: &Binds) -> Result<Valuation, NoMemory>
+fn valuation(alloc: Global, binds: &Binds<Value>) -> Result<Valuation, NoMemory>
     requires { All IsValueBound binds.now }
     ensures { IfOk result (λ values. map some_plain values ≡ binds.now) }
 {
@@ -164,19 +167,30 @@ fn valuation(alloc: Global, binds: &Binds) -> Result<Valuation, NoMemory>
     Ok(values)
 }
 
-/// The two states of a point without variables; None where it has some.
+// The value that a tree is, false where it is none.
+fn plain_value(alloc: Global, tree: &Term<Value>) -> Result<Value, NoMemory>
+    ensures { IfOk result (λ value. value ≡ plain_of tree.now) }
+{
+    match tree {
+        Term::Con(..) => Ok(Value::One(Scalar::Flag(false))),
+        Term::Plain(value) => copy_value(alloc, value),
+    }
+}
+
+/// The two states of a point of a problem that has no variables; None where it has some.
 pub fn point_states(
     alloc: Global,
+    problem: &Problem,
     point: &Point,
 ) -> Result<Option<(State<Left>, State<Right>)>, NoMemory>
-    requires { (l : System) × (r : System) × IsPointOf l r point.now }
+    requires { IsPointOf problem.now.left problem.now.right point.now }
     ensures { IfOk result (λ states. MatchOption states (point.now.vars ≢ []) (AreOf point.now)) }
 {
     if !point.vars.is_empty() {
         return Ok(None);
     }
     let none = Items::new(alloc);
-    let left = evaluate(alloc, &point.left, &none)?;
-    let right = evaluate(alloc, &point.right, &none)?;
+    let left = expression_tree(alloc, &problem.left, &point.left, &none)?;
+    let right = expression_tree(alloc, &problem.right, &point.right, &none)?;
     Ok(Some((Config::new(left), Config::new(right))))
 }

@@ -1,21 +1,18 @@
 // Steps of a state, and whether it is in the cut.
-ghost use Rattle.std.specs.Prelude.{◌≡◌, ◌↔◌, ◌<◌, All, IfOk, IsTrue, length};
-ghost use Rattle.sort_term.specs.Step.{Demanded, IsState};
+ghost use Rattle.std.specs.Prelude.{◌↔◌, ◌<◌, All, IfOk, IsTrue, MatchOption, length, option_map};
+ghost use Rattle.sort_term.specs.Step.{IsState};
 ghost use Rattle.sort_term.specs.Cuts.{InCut};
 ghost use Rattle.sort_term.specs.Fits.{AreCuts, IsCut, IsProgram};
-ghost use Rattle.ground_step.specs.Binds.{Narrows};
-ghost use Rattle.ground_step.specs.Ready.{AreDemandsReady};
-ghost use Rattle.ground_step.specs.Steps.{AreSteps, IsCovered, StepIs, steps_of};
+ghost use Rattle.ground_step.specs.Steps.{AreSteps, IsCovered, IsTaken, IsTakenAt, StepIs, steps_of, term_of};
 
-use crate::binds::{Binds, unbound};
-use crate::evaluation::{all_hold, evaluate};
-use crate::matching::{is_met, meets};
+use crate::conditions::{all_hold, all_true, is_true};
 use crate::run::{RunStep, RunSteps};
-use data_value::Value;
+use data_value::{Ground, Value};
 use no_memory::NoMemory;
-use sort_term::{Config, Cut, Cuts, Demand, Program, RuleId, Semantics, Side, State, Term};
+use sort_term::{Cut, Cuts, Program, RuleId, Semantics, Side, State};
 use sqlite_items::Items;
 use std::alloc::Global;
+use unify::{Branch, Meet, branches, unify};
 
 /// All steps of a state, in the order of the rules.
 pub fn successors<S: Side>(
@@ -31,11 +28,8 @@ pub fn successors<S: Side>(
     let mut steps = Items::new(alloc);
     for place in 0..semantics.rules().len() {
         let rule = RuleId(place);
-        if let Some(tree) = step(alloc, semantics, program, rule, state.term())? {
-            steps.push(RunStep {
-                rule,
-                state: Config::new(tree),
-            })?;
+        if let Some(next) = step(alloc, semantics, program, rule, state)? {
+            steps.push(RunStep { rule, state: next })?;
         }
     }
     Ok(steps)
@@ -47,39 +41,33 @@ pub fn step<S: Side>(
     semantics: &Semantics<S>,
     program: &Program<S>,
     rule: RuleId,
-    tree: &Term<Value>,
-) -> Result<Option<Term<Value>>, NoMemory>
+    state: &State<S>,
+) -> Result<Option<State<S>>, NoMemory>
     requires there { rule.0 < length semantics.now.rules }
     requires program { IsProgram semantics.now program.now }
-    requires state { IsState semantics.now tree.now }
-    ensures { IfOk result (λ next. StepIs semantics.now program.now rule.0 tree.now next) }
+    requires state { IsState semantics.now state.now.term }
+    ensures { IfOk result (λ next. StepIs semantics.now program.now rule.0 state.now.term (option_map term_of next)) }
 {
-    let rule = &semantics.rules().as_slice()[rule.0];
-    let mut binds = unbound(alloc, rule.vars.len())?;
-    if !meets(alloc, &rule.head, tree, &mut binds)? {
-        return Ok(None);
+    // Reading its rules shows that the semantics has passed its checks.
+    let _rules = semantics.rules();
+    let mut ground = Ground::new(alloc);
+    let mut found = branches(alloc, &mut ground, semantics, program, rule, state)?;
+    match taken(found.as_slice()) {
+        Some(place) => Ok(Some(found.remove(place).result)),
+        None => Ok(None),
     }
-    if !all_met(alloc, program, rule.demands.as_slice(), &mut binds)? {
-        return Ok(None);
-    }
-    Ok(Some(evaluate(alloc, &rule.result, &binds)?))
 }
 
-fn all_met<S: Side>(
-    alloc: Global,
-    program: &Program<S>,
-    demands: &[Demand],
-    binds: &mut Binds,
-) -> Result<bool, NoMemory>
-    requires { AreDemandsReady program.now binds.old demands.now }
-    ensures { IfOk result (λ ok. Narrows binds.old binds.new ok (λ v. All (Demanded program.now v) demands.now)) }
+// The place of the first branch whose condition is true.
+fn taken<S: Side>(branches: &[Branch<S, Value>]) -> Option<usize>
+    ensures { MatchOption result (All (λ b. ¬ IsTaken b) branches.now) (IsTakenAt branches.now) }
 {
-    for demand in demands {
-        if !is_met(alloc, program, demand, binds)? {
-            return Ok(false);
+    for place in 0..branches.len() {
+        if is_true(&branches[place].condition) {
+            return Some(place);
         }
     }
-    Ok(true)
+    None
 }
 
 /// Whether a state is in the cut: one of the items has a pattern that fits it and conditions that are true.
@@ -94,7 +82,7 @@ pub fn in_cut<S: Side>(
     ensures { IfOk result (λ is_in. IsTrue is_in ↔ InCut semantics.now.cons cuts.now state.now.term) }
 {
     for cut in cuts.as_slice() {
-        if in_item(alloc, semantics, cut, state.term())? {
+        if in_item(alloc, semantics, cut, state)? {
             return Ok(true);
         }
     }
@@ -104,16 +92,28 @@ pub fn in_cut<S: Side>(
 fn in_item<S: Side>(
     alloc: Global,
     semantics: &Semantics<S>,
-    cut: &Cut<S>,
-    tree: &Term<Value>,
+    item: &Cut<S>,
+    state: &State<S>,
 ) -> Result<bool, NoMemory>
-    requires item { IsCut semantics.now cut.now }
-    requires state { IsState semantics.now tree.now }
-    ensures { IfOk result (λ is_in. IsTrue is_in ↔ IsCovered semantics.now.cons cut.now tree.now) }
+    requires item { IsCut semantics.now item.now }
+    requires state { IsState semantics.now state.now.term }
+    ensures { IfOk result (λ is_in. IsTrue is_in ↔ IsCovered semantics.now.cons item.now state.now.term) }
 {
-    let mut binds = unbound(alloc, cut.vars.len())?;
-    if !meets(alloc, &cut.pattern, tree, &mut binds)? {
-        return Ok(false);
+    let mut ground = Ground::new(alloc);
+    match unify(
+        alloc,
+        &mut ground,
+        semantics,
+        &item.vars,
+        &item.pattern,
+        state.term(),
+    )? {
+        Meet::Apart => Ok(false),
+        Meet::Meets { binds, equations } => {
+            if !all_true(equations.as_slice()) {
+                return Ok(false);
+            }
+            Ok(all_hold(alloc, semantics, item.whens.as_slice(), &binds)?)
+        }
     }
-    all_hold(alloc, cut.whens.as_slice(), &binds)
 }

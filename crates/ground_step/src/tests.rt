@@ -446,7 +446,7 @@ fn found_states(rt: &impl Abort, alloc: Global) -> Vec<u8> {
     let expected = tree(rt, alloc, 1, None);
     let mut text = Vec::new(alloc);
     for point in problem.points.points.as_slice() {
-        let shown = match point_states(alloc, point).expect(rt, "memory") {
+        let shown = match point_states(alloc, &problem, point).expect(rt, "memory") {
             None => b'-',
             Some((left, right)) => {
                 if same_term(left.term(), &expected) && same_term(right.term(), &expected) {

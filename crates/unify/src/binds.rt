@@ -12,8 +12,8 @@ pub type Binds<N> = Items<Option<Term<N>>>;
 /// Nodes of a domain.
 pub type Nodes<N> = Items<N>;
 
-/// No variable is bound.
-pub(crate) fn unbound<N: Drop>(alloc: Global, count: usize) -> Result<Binds<N>, NoMemory>
+/// The binds of `count` variables of which none is bound. It fails only for want of memory.
+pub fn unbound<N: Drop>(alloc: Global, count: usize) -> Result<Binds<N>, NoMemory>
     ensures { IfOk result (λ binds. binds ≡ replicate count None) }
 {
     let mut binds = Items::new(alloc);

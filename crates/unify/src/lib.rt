@@ -15,7 +15,7 @@ mod meet;
 mod plain;
 mod rows;
 
-pub use binds::{Binds, Nodes};
+pub use binds::{Binds, Nodes, unbound};
 pub use branch::{Branch, BranchList};
 pub use branching::branches;
 pub use copy::copy_term;

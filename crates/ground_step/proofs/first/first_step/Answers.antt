@@ -1,7 +1,6 @@
-use Rattle.std.proofs.Common.{arith, ◌≤◌, length, Some, None, sym, subst}
-use Rattle.sort_term.specs.Runs.{StepsFirst}
-use Rattle.sort_term.specs.Step.{StepsBy}
-use Rattle.ground_step.specs.Steps.{StepIs}
+use Rattle.std.proofs.Common.{arith, ◌≤◌, length, Some, None, subst}
+use Rattle.std.specs.Prelude.{option_map}
+use Rattle.ground_step.specs.Steps.{StepIs, term_of}
 use Rattle.ground_step.proofs.FirstRuns.{none_more, first_here, none_steps}
 use Rattle.ground_step.proofs.first.first_step.Goals as goal
 
@@ -11,9 +10,9 @@ returns-in-Some g c =
     let tables = c.args.program.now in
     let s = c.args.state.now.term in
     let n = c.loop-place.place in
-    let told : StepIs sys tables n s c.in_ok-tree.field-0 = rw c.term.ensures at c.in_ok-tree.ensures in
-    let made : StepIs sys tables n s (Some c.in-Some.tree) = subst (StepIs sys tables n s) c.in-Some.is told in
-    subst (λ t. StepsFirst (StepsBy sys tables) n s t) (sym c.new.ensures) (first_here sys tables s n c.in-Some.tree c.loop-place.invariant made)
+    let told : StepIs sys tables n s (option_map term_of c.in_ok-next.field-0) = c.in_ok-next.ensures in
+    let made : StepIs sys tables n s (Some c.in-Some.next.term) = subst (λ o. StepIs sys tables n s (option_map term_of o)) c.in-Some.is told in
+    first_here sys tables s n c.in-Some.next.term c.loop-place.invariant made
 
 pub loop-place-preserved : goal.loop-place-preserved
 loop-place-preserved g c =
@@ -21,8 +20,8 @@ loop-place-preserved g c =
     let tables = c.args.program.now in
     let s = c.args.state.now.term in
     let n = c.loop-place.place in
-    let told : StepIs sys tables n s c.in_ok-tree.field-0 = rw c.term.ensures at c.in_ok-tree.ensures in
-    let unmade : StepIs sys tables n s None = subst (StepIs sys tables n s) c.in_default.is told in
+    let told : StepIs sys tables n s (option_map term_of c.in_ok-next.field-0) = c.in_ok-next.ensures in
+    let unmade : StepIs sys tables n s None = subst (λ o. StepIs sys tables n s (option_map term_of o)) c.in_default.is told in
     none_more sys tables s n c.loop-place.invariant unmade
 
 pub returns : goal.returns

@@ -2,11 +2,11 @@ use Rattle.std.proofs.Common.{◌≡◌, [], sym, ◌∙◌}
 use Rattle.ground_step.proofs.Pairs.{ready_alone}
 use Rattle.ground_step.proofs.relation.point_states.Goals as goal
 
-pub evaluate-requires : goal.evaluate-requires
-evaluate-requires c = ready_alone c.requires.0.cons c.args.point.now.vars c.args.point.now.left _ c.new-none.result c.requires.2.left_term.is (c.is_empty.ensures.0 c.if-not-is_empty.false)
+pub expression_tree-requires : goal.expression_tree-requires
+expression_tree-requires c = rw c.new-none.ensures (ready_alone c.args.problem.now.left.cons c.args.point.now.vars c.args.point.now.left _ c.requires.left_term.is (c.is_empty.ensures.0 c.if-not-is_empty.false))
 
-pub evaluate-requires-2 : goal.evaluate-requires-2
-evaluate-requires-2 c = ready_alone c.requires.1.cons c.args.point.now.vars c.args.point.now.right _ c.new-none.result c.requires.2.right_term.is (c.is_empty.ensures.0 c.if-not-is_empty.false)
+pub expression_tree-requires-2 : goal.expression_tree-requires-2
+expression_tree-requires-2 c = rw c.new-none.ensures (ready_alone c.args.problem.now.right.cons c.args.point.now.vars c.args.point.now.right _ c.requires.right_term.is (c.is_empty.ensures.0 c.if-not-is_empty.false))
 
 pub returns : goal.returns
 returns c =

@@ -1,0 +1,91 @@
+// Expressions and conditions where variables are bound to trees.
+ghost use Rattle.std.specs.Prelude.{◌≡◌, ◌↔◌, All, IfOk, IsTrue, true};
+ghost use Rattle.data_value.specs.declared.Scalar.TheVariants.{Flag};
+ghost use Rattle.data_value.specs.declared.Value.TheVariants.{One};
+ghost use Rattle.sort_term.specs.Tree.{IsTrueTree, value};
+ghost use Rattle.sort_term.specs.Cuts.{AllTrue};
+ghost use Rattle.ground_step.specs.Binds.{Gives, Narrows};
+ghost use Rattle.ground_step.specs.Ready.{IsReady};
+
+use data_value::{Ground, Scalar, Value};
+use no_memory::NoMemory;
+use sort_term::{RuleExpr, Semantics, Side, Term};
+use std::alloc::Global;
+use unify::{Binds, evaluate};
+
+/// The value of an expression.
+pub fn expression_tree<S: Side>(
+    alloc: Global,
+    semantics: &Semantics<S>,
+    expression: &RuleExpr,
+    binds: &Binds<Value>,
+) -> Result<Term<Value>, NoMemory>
+    requires { IsReady semantics.now.cons binds.now expression.now }
+    ensures { IfOk result (λ tree. Gives binds.now expression.now tree) }
+{
+    let mut ground = Ground::new(alloc);
+    Ok(evaluate(alloc, &mut ground, semantics, expression, binds)?)
+}
+
+/// Whether a value is the truth value true.
+pub fn is_true(value: &Value) -> bool
+    ensures { IsTrue result ↔ (value.now ≡ One (Flag true)) }
+{
+    match value {
+        Value::One(Scalar::Flag(flag)) => *flag,
+        _ => false,
+    }
+}
+
+/// Whether all of these values are the truth value true.
+pub fn all_true(values: &[Value]) -> bool
+    ensures { IsTrue result ↔ All (λ x. x ≡ One (Flag true)) values.now }
+{
+    for value in values {
+        if !is_true(value) {
+            return false;
+        }
+    }
+    true
+}
+
+fn is_true_tree(tree: &Term<Value>) -> bool
+    ensures { IsTrue result ↔ IsTrueTree tree.now }
+{
+    match tree {
+        Term::Con(..) => false,
+        Term::Plain(value) => is_true(value),
+    }
+}
+
+// Whether a condition is true.
+fn holds<S: Side>(
+    alloc: Global,
+    semantics: &Semantics<S>,
+    condition: &RuleExpr,
+    binds: &Binds<Value>,
+) -> Result<bool, NoMemory>
+    requires { IsReady semantics.now.cons binds.now condition.now }
+    ensures { IfOk result (λ ok. Narrows binds.now binds.now ok (λ v. IsTrueTree (value v condition.now))) }
+{
+    let tree = expression_tree(alloc, semantics, condition, binds)?;
+    Ok(is_true_tree(&tree))
+}
+
+/// Whether all conditions are true.
+pub fn all_hold<S: Side>(
+    alloc: Global,
+    semantics: &Semantics<S>,
+    conditions: &[RuleExpr],
+    binds: &Binds<Value>,
+) -> Result<bool, NoMemory>
+    requires { All (IsReady semantics.now.cons binds.now) conditions.now }
+    ensures { IfOk result (λ ok. Narrows binds.now binds.now ok (λ v. AllTrue v conditions.now)) }
+{
+    for condition in conditions {
+        if !holds(alloc, semantics, condition, binds)? {
+            return Ok(false);
+        }
+    }
+    Ok(true)
+}
