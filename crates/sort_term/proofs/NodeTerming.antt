@@ -1,11 +1,13 @@
 -- Terms over nodes: they stay as they are where a domain grows, and their trees have their sorts.
-use Rattle.std.proofs.Common.{◌≡◌, Bool, true, false, ◌&&◌, IsTrue, List, [], ◌∷◌, map, slice_get, Some, None, refl, sym, ap, ◌∙◌}
+use Rattle.std.proofs.Common.{◌≡◌, Bool, true, false, ◌&&◌, IsTrue, List, [], ◌∷◌, length, map, slice_get, Some, None, refl, sym, ap, ◌∙◌}
 use Rattle.std.specs.Prelude.{if◌then◌else◌}
 use Rattle.std.specs.List.{list_all}
 use Rattle.std.proofs.lemmas.Bool.{and_parts, and_from}
 use Rattle.data_value.specs.declared.DataSort.{DataSort}
 use Rattle.data_value.specs.declared.Value.{Value}
 use Rattle.data_value.specs.Nodes.{Seen, Extends, IsLawful, IsValuation}
+use Rattle.data_value.specs.Views.{AgreeBelow}
+use Rattle.data_value.specs.NodeLaws.{DependsOnVariables}
 use Rattle.sort_term.specs.declared.ids.ConId.{ConId}
 use Rattle.sort_term.specs.declared.term.Sort.{Sort}
 use Rattle.sort_term.specs.declared.term.Sort.TheVariants.{Plain}
@@ -16,7 +18,7 @@ use Rattle.sort_term.specs.declared.term.Term.TheFolds.{fold-roll-Term}
 use Rattle.sort_term.specs.declared.term.Term.TheVariants as term
 use Rattle.sort_term.specs.Sorted.{con_sort, tree_sort}
 use Rattle.sort_term.specs.NodeTerms.{seen_term, valid_step, is_valid_term, node_sort, seen_sort, tree_of}
-use Rattle.sort_term.specs.NodeTermLaws.{TermsStay, SortedTermsAreValid, TermsMeanTheirSorts}
+use Rattle.sort_term.specs.NodeTermLaws.{TermsStay, SortedTermsAreValid, TermsMeanTheirSorts, TermsDependOnVariables}
 use Rattle.sort_term.proofs.Each.{Each}
 use Rattle.sort_term.proofs.Equations.{term_sort-Plain, term_sort-Con, tree_sort-Plain, tree_sort-Con, map_term-Plain, map_term-Con}
 use Rattle.sort_term.proofs.Induction.{term_ind}
@@ -157,6 +159,36 @@ module _ {N : Type 0} (cons : List Con) (look : N → Seen N) (variables : List 
   -- under a valuation of the domain's variables a term means a tree of its sort
   pub means_sort : (t : Term N) → MeansSort t
   means_sort = term_ind N MeansSort means_plain means_con
+
+module _ {N : Type 0} (look : N → Seen N) (variables : List DataSort) (depends : (n : N) → DependsOnVariables look variables n) (v w : List Value) (agree : AgreeBelow (length variables) v w) where
+  abbrev MeansSame : Term N → Type 0
+  MeansSame t = IsTrue (is_valid_term (seen_term look t)) → tree_of v (seen_term look t) ≡ tree_of w (seen_term look t)
+
+  same_all : (ts : List (Term N)) → Each MeansSame ts → IsTrue (list_all is_valid_term (map (seen_term look) ts)) → map (tree_of v) (map (seen_term look) ts) ≡ map (tree_of w) (map (seen_term look) ts)
+  same_all [] e h = refl
+  same_all (t ∷ ts) e h =
+      let p = and_parts (is_valid_term (seen_term look t)) (list_all is_valid_term (map (seen_term look) ts)) h in
+      let first = e.0 p.0 in
+      let rest = same_all ts e.1 p.1 in
+      λ i. first i ∷ rest i
+
+  same_plain : (n : N) → MeansSame (term.Plain n)
+  same_plain n h =
+      let ok : IsTrue (look n).valid = sym (ap is_valid_term (seen-Plain look n) ∙ valid-Plain (look n)) ∙ h in
+      ap (tree_of v) (seen-Plain look n) ∙ tree_of-Plain v (look n) ∙ ap term.Plain (depends n ok v w agree) ∙ sym (tree_of-Plain w (look n)) ∙ sym (ap (tree_of w) (seen-Plain look n))
+
+  same_con : (k : ConId) (ts : List (Term N)) → Each MeansSame ts → MeansSame (term.Con k ts)
+  same_con k ts e h =
+      let us = map (seen_term look) ts in
+      let ok : IsTrue (list_all is_valid_term us) = sym (ap is_valid_term (seen-Con look k ts) ∙ valid-Con k us) ∙ h in
+      ap (tree_of v) (seen-Con look k ts) ∙ tree_of-Con v k us ∙ ap (term.Con k) (same_all ts e ok) ∙ sym (tree_of-Con w k us) ∙ sym (ap (tree_of w) (seen-Con look k ts))
+
+  -- a term means one tree under valuations that agree on the domain's variables
+  means_same : (t : Term N) → MeansSame t
+  means_same = term_ind N MeansSame same_plain same_con
+
+pub depend_law : (N : Type 0) → TermsDependOnVariables N
+depend_law N look variables depends t v w ok agree = means_same look variables depends v w agree t ok
 
 pub stay_law : (N : Type 0) → TermsStay N
 stay_law N before after t x ok = term_stays before after x t ok

@@ -3,7 +3,7 @@ use Rattle.std.proofs.Common.{arith, ◌≡◌, ◌≢◌, ◌↔◌, ℕ, ◌+�
 use Rattle.std.proofs.lemmas.Bool.{cases_lt}
 use Rattle.std.proofs.lemmas.List.{length_push, length-take-le, map-append, nil_from_length, take-append-drop}
 use Rattle.std.proofs.lemmas.List.Elements.{All-nil, All-take, All-push, All-head, All-tail, All-cons}
-use Rattle.sort_term.specs.Runs.{reached, rules_of, IsRun, IsStuck, IsClear, IsMet, IsLong, Succeeds, MetTo, LongTo, HaltedBelow, After}
+use Rattle.sort_term.specs.Runs.{reached, rules_of, IsRun, IsStuck, IsClear, IsMet, IsLong, IsHalted, Succeeds, MetTo, LongTo, HaltedTo, After}
 
 -- a list of at least one item, as its front and its last item
 pub record Pushed {X : Type 0} (xs : List X) : Type 0 where
@@ -28,10 +28,6 @@ reached_push s xs x = reached-append s xs (x ∷ [])
 
 pub rules_push : {S : Type 0} (xs : List (ℕ × S)) (x : ℕ × S) → rules_of (xs ++ x ∷ []) ≡ rules_of xs ++ x.0 ∷ []
 rules_push xs x = map-append (λ y. y.0) xs (x ∷ [])
-
-rules_nil : {S : Type 0} (xs : List (ℕ × S)) → rules_of xs ≡ [] → xs ≡ []
-rules_nil [] e = refl
-rules_nil (x ∷ xs) e = let h : length (rules_of (x ∷ xs)) ≡ 0 = ap length e in absurd (cc)
 
 module _ {S : Type 0} (Steps : ℕ → S → S → Type 0) where
   -- a run and a run from where it ends are one run, and a run parts so at each place
@@ -187,33 +183,43 @@ module _ {S : Type 0} (Steps : ℕ → S → S → Type 0) (In : S → Type 0) (
             last = reached_push s g.run (a.rule, t);
           }
 
-  pub halted_zero : (rules : List ℕ) (t : S) → ¬ HaltedBelow Steps In 0 s rules t
-  halted_zero rules t e = let l = e.has.1 in absurd (omega arith)
+  pub halted_zero : (rules : List ℕ) (t : S) → ¬ HaltedTo Steps In 0 s rules t
+  halted_zero rules t e = e.has.0.moves (nil_from_length e.run (let l = e.has.1 in omega arith))
 
-  pub halted_more : (k : ℕ) (rules : List ℕ) (t : S) → HaltedBelow Steps In (k + 1) s rules t ↔ (HaltedBelow Steps In k s rules t ⊎ (LongTo Steps In k s rules t × (rules ≢ []) × IsStuck Steps t))
+  pub halted_more : (k : ℕ) (rules : List ℕ) (t : S) → HaltedTo Steps In (k + 1) s rules t ↔ (HaltedTo Steps In k s rules t ⊎ (LongTo Steps In (k + 1) s rules t × IsStuck Steps t))
   halted_more k rules t = (to, from)
     where
-      to : HaltedBelow Steps In (k + 1) s rules t → HaltedBelow Steps In k s rules t ⊎ (LongTo Steps In k s rules t × (rules ≢ []) × IsStuck Steps t)
-      to e = go (cases_lt (length e.run) k)
+      to : HaltedTo Steps In (k + 1) s rules t → HaltedTo Steps In k s rules t ⊎ (LongTo Steps In (k + 1) s rules t × IsStuck Steps t)
+      to e = go (cases_lt k (length e.run))
         where
-          go : (length e.run < k) ⊎ (k ≤ length e.run) → HaltedBelow Steps In k s rules t ⊎ (LongTo Steps In k s rules t × (rules ≢ []) × IsStuck Steps t)
-          go (inl h) = inl (record { run = e.run; has = (e.has.0, h); by = e.by; last = e.last })
-          go (inr h) =
+          go : (k < length e.run) ⊎ (length e.run ≤ k) → HaltedTo Steps In k s rules t ⊎ (LongTo Steps In (k + 1) s rules t × IsStuck Steps t)
+          go (inr h) = inl (record { run = e.run; has = (e.has.0, h); by = e.by; last = e.last })
+          go (inl h) =
               let l = e.has.1 in
               inr (
                 record { run = e.run; has = record { long = omega arith; runs = e.has.0.runs; clear = e.has.0.clear }; by = e.by; last = e.last },
-                λ z. e.has.0.moves (rules_nil e.run (e.by ∙ z)),
                 subst (IsStuck Steps) e.last e.has.0.stuck,
               )
 
-      from : HaltedBelow Steps In k s rules t ⊎ (LongTo Steps In k s rules t × (rules ≢ []) × IsStuck Steps t) → HaltedBelow Steps In (k + 1) s rules t
+      moved : (run : List (ℕ × S)) → length run ≡ k + 1 → run ≢ []
+      moved run l e = let z : length run ≡ 0 = ap length e in absurd (omega arith)
+
+      from : HaltedTo Steps In k s rules t ⊎ (LongTo Steps In (k + 1) s rules t × IsStuck Steps t) → HaltedTo Steps In (k + 1) s rules t
       from (inl e) = record { run = e.run; has = (e.has.0, let l = e.has.1 in omega arith); by = e.by; last = e.last }
       from (inr h) =
           let e = h.0 in
           let l = e.has.long in
           record {
             run = e.run;
-            has = (record { moves = λ z. h.1 (sym e.by ∙ ap rules_of z); runs = e.has.runs; clear = e.has.clear; stuck = subst (IsStuck Steps) (sym e.last) h.2 }, omega arith);
+            has = (record { moves = moved e.run l; runs = e.has.runs; clear = e.has.clear; stuck = subst (IsStuck Steps) (sym e.last) h.1 }, omega arith);
             by = e.by;
             last = e.last;
           }
+
+  -- where no run is long, a halted run has at most n steps
+  pub halted_short : (n : ℕ) (run : List (ℕ × S)) → ((r : List (ℕ × S)) → ¬ IsLong Steps In n s r) → IsHalted Steps In s run → length run ≤ n
+  halted_short n run none is = go (cases_lt n (length run))
+    where
+      go : (n < length run) ⊎ (length run ≤ n) → length run ≤ n
+      go (inl h) = absurd (none (take n run) (long_front (length run) n run (omega arith) (record { long = refl; runs = is.runs; clear = is.clear })))
+      go (inr h) = h

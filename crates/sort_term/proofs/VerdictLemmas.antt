@@ -3,8 +3,8 @@ use Rattle.std.proofs.Common.{arith, ◌≡◌, ℕ, ◌<◌, ◌≤◌, [], ◌
 use Rattle.std.proofs.lemmas.Bool.{cases_lt}
 use Rattle.sort_term.specs.declared.points.Point.{Point}
 use Rattle.sort_term.specs.declared.problem.Problem.{Problem}
-use Rattle.sort_term.specs.Relation.{left, right, RightFails, LeftFails}
-use Rattle.sort_term.specs.Simulation.{IsPoint, Test, void, outside, long, halted, IsUngrounded, IsGrounded}
+use Rattle.sort_term.specs.Relation.{left, right, IsPoint, RightFails, LeftFails}
+use Rattle.sort_term.specs.Simulation.{Test, void, outside, long, halted, IsUngrounded, IsGrounded}
 use Rattle.sort_term.specs.Verdict.{Kind, ungrounded, unmatched, refines, equivalent, rank, FirstTest, AtPoint, NoneBefore, IsVerdict}
 
 -- the tests in their order

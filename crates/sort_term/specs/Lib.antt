@@ -5,6 +5,8 @@ pub mod Sorted
 pub mod NodeTerms
 pub mod Step
 pub mod Runs
+pub mod Meeting
+pub mod StateSets
 pub mod Cuts
 pub mod Relation
 pub mod Simulation
@@ -16,5 +18,7 @@ pub mod Rules
 pub mod Fits
 pub mod SortLaws
 pub mod PartnerLaws
+pub mod GroundLaws
+pub mod RelationLaws
 pub mod RunLaws
 pub mod NodeTermLaws

@@ -1,8 +1,10 @@
 -- Laws of terms over nodes.
-use Rattle.std.specs.Prelude.{◌≡◌, IsTrue, List}
+use Rattle.std.specs.Prelude.{◌≡◌, IsTrue, List, length}
 use Rattle.data_value.specs.declared.DataSort.{DataSort}
 use Rattle.data_value.specs.declared.Value.{Value}
 use Rattle.data_value.specs.Nodes.{Seen, Extends, IsLawful, IsValuation}
+use Rattle.data_value.specs.Views.{AgreeBelow}
+use Rattle.data_value.specs.NodeLaws.{DependsOnVariables}
 use Rattle.data_value.specs.Ground.{ground_seen}
 use Rattle.sort_term.specs.declared.term.Sort.{Sort}
 use Rattle.sort_term.specs.declared.term.Term.{Term}
@@ -22,6 +24,10 @@ SortedTermsAreValid N = (cons : List Con) (a : Sort) (t : Term (Seen N)) → IsT
 -- under a valuation of the domain's variables a term of a sort means a tree of that sort
 abbrev pub TermsMeanTheirSorts : Type 0 → Type 0
 TermsMeanTheirSorts N = (cons : List Con) (a : Sort) (look : N → Seen N) (variables : List DataSort) (t : Term N) (v : List Value) → IsLawful look variables → IsTermOf cons a (seen_term look t) → IsValuation variables v → IsTreeOf cons a (tree_of v (seen_term look t))
+
+-- where the meanings of nodes depend on the values of the domain's variables alone, so do those of terms
+abbrev pub TermsDependOnVariables : Type 0 → Type 0
+TermsDependOnVariables N = (look : N → Seen N) (variables : List DataSort) → ((n : N) → DependsOnVariables look variables n) → (t : Term N) (v w : List Value) → IsTrue (is_valid_term (seen_term look t)) → AgreeBelow (length variables) v w → tree_of v (seen_term look t) ≡ tree_of w (seen_term look t)
 
 -- where nodes are values, a term has the sort that it has as a tree
 abbrev pub GroundTermsHaveTreeSorts : Type 0

@@ -1,38 +1,43 @@
 -- The relation of the points, and what can be wrong with a point.
-use Rattle.std.specs.Prelude.{◌≡◌, ℕ, List, [], slice_get, Some}
+use Rattle.std.specs.Prelude.{◌≡◌, ℕ, [], slice_get, Some}
 use Rattle.sort_term.specs.declared.points.Point.{Point}
 use Rattle.sort_term.specs.declared.problem.Problem.{Problem}
 use Rattle.sort_term.specs.Tree.{Tree, Trees, value}
 use Rattle.sort_term.specs.Sorted.{Fits}
 use Rattle.sort_term.specs.Step.{StepsBy}
-use Rattle.sort_term.specs.Runs.{IsLong, IsHalted, Succeeds}
+use Rattle.sort_term.specs.Runs.{Succeeds}
+use Rattle.sort_term.specs.StateSets.{IsVoid, IsOutside, RunsLong, Halts}
 use Rattle.sort_term.specs.Cuts.{AllTrue, InCut}
 
+-- p is the point of the problem with the number k, counted from 0 in the order of the text
+abbrev pub IsPoint : Problem → ℕ → Point → Type 0
+IsPoint q k p = slice_get q.points.points k ≡ Some p
+
 -- v gives each variable of the point a value of its sort, and makes the conditions true; the variables' sorts are data sorts, so no constructor is asked for
-pub record Holds (p : Point) (v : Trees) : Type 0 where
+pub record Holds (q : Problem) (p : Point) (v : Trees) : Type 0 where
   pub fits : Fits [] p.vars v
   pub whens : AllTrue v p.whens
 
 -- (a, b) is a related pair of p under v
-pub record Relates (p : Point) (v : Trees) (a b : Tree) : Type 0 where
-  pub holds : Holds p v
+pub record Relates (q : Problem) (p : Point) (v : Trees) (a b : Tree) : Type 0 where
+  pub holds : Holds q p v
   pub left : value v p.left ≡ a
   pub right : value v p.right ≡ b
 
 -- the relation: (a, b) is a related pair of some point
-pub record Related (points : List Point) (a b : Tree) : Type 0 where
+pub record Related (q : Problem) (a b : Tree) : Type 0 where
   pub place : ℕ
   pub point : Point
-  pub there : slice_get points place ≡ Some point
+  pub there : IsPoint q place point
   pub valuation : Trees
-  pub relates : Relates point valuation a b
+  pub relates : Relates q point valuation a b
 
 -- some related pair of p has the property, and each has it
-abbrev pub SomePair : Point → (Tree → Tree → Type 0) → Type 0
-SomePair p P = (v : Trees) × (a : Tree) × (b : Tree) × Relates p v a b × P a b
+abbrev pub SomePair : Problem → Point → (Tree → Tree → Type 0) → Type 0
+SomePair q p P = (v : Trees) × (a : Tree) × (b : Tree) × Relates q p v a b × P a b
 
-abbrev pub EachPair : Point → (Tree → Tree → Type 0) → Type 0
-EachPair p P = (v : Trees) (a b : Tree) → Relates p v a b → P a b
+abbrev pub EachPair : Problem → Point → (Tree → Tree → Type 0) → Type 0
+EachPair q p P = (v : Trees) (a b : Tree) → Relates q p v a b → P a b
 
 pub data Side : Type 0 where
   left : Side
@@ -55,28 +60,36 @@ InCutOf q right = InCut q.right.cons q.points.right_cuts
 abbrev pub SucceedsOf : Problem → Side → Tree → Tree → Type 0
 SucceedsOf q side = Succeeds (StepsOf q side) (InCutOf q side)
 
+-- the states of a side in the related pairs of p
+pub record IsStateOf (q : Problem) (p : Point) (side : Side) (s : Tree) : Type 0 where
+  pub valuation : Trees
+  pub left_state : Tree
+  pub right_state : Tree
+  pub relates : Relates q p valuation left_state right_state
+  pub is : of_side side left_state right_state ≡ s
+
 -- void: no valuation makes the conditions true
-abbrev pub Void : Point → Type 0
-Void p = (v : Trees) → ¬ Holds p v
+abbrev pub Void : Problem → Point → Type 0
+Void q p = IsVoid (Holds q p)
 
 -- outside: the side's state of some related pair isn't in its cut
 abbrev pub Outside : Problem → Point → Side → Type 0
-Outside q p side = SomePair p (λ a b. ¬ InCutOf q side (of_side side a b))
+Outside q p side = IsOutside (InCutOf q side) (IsStateOf q p side)
 
 -- long: from the side's state of some related pair there is a run of n steps whose later states all lie outside the cut
 abbrev pub Long : Problem → ℕ → Point → Side → Type 0
-Long q n p side = SomePair p (λ a b. (run : List (ℕ × Tree)) × IsLong (StepsOf q side) (InCutOf q side) n (of_side side a b) run)
+Long q n p side = RunsLong (StepsOf q side) (InCutOf q side) n (IsStateOf q p side)
 
 -- halted: from the side's state of some related pair a run of at least one step ends in a state without a step, and its later states all lie outside the cut
 abbrev pub Halted : Problem → Point → Side → Type 0
-Halted q p side = SomePair p (λ a b. (run : List (ℕ × Tree)) × IsHalted (StepsOf q side) (InCutOf q side) (of_side side a b) run)
+Halted q p side = Halts (StepsOf q side) (InCutOf q side) (IsStateOf q p side)
 
 -- right fails: some related pair (a, b) and some cut successor b' of b have no cut successor a' of a with (a', b') in the relation
 abbrev pub RightFails : Problem → Point → Type 0
 RightFails q p =
-    SomePair p (λ a b. (b' : Tree) × SucceedsOf q right b b' × ((a' : Tree) → SucceedsOf q left a a' → ¬ Related q.points.points a' b'))
+    SomePair q p (λ a b. (b' : Tree) × SucceedsOf q right b b' × ((a' : Tree) → SucceedsOf q left a a' → ¬ Related q a' b'))
 
 -- left fails: the same with the sides exchanged
 abbrev pub LeftFails : Problem → Point → Type 0
 LeftFails q p =
-    SomePair p (λ a b. (a' : Tree) × SucceedsOf q left a a' × ((b' : Tree) → SucceedsOf q right b b' → ¬ Related q.points.points a' b'))
+    SomePair q p (λ a b. (a' : Tree) × SucceedsOf q left a a' × ((b' : Tree) → SucceedsOf q right b b' → ¬ Related q a' b'))

@@ -1,5 +1,5 @@
 -- Laws of runs, steps and verdicts.
-use Rattle.std.specs.Prelude.{◌≡◌, ℕ, ◌≤◌, List, length}
+use Rattle.std.specs.Prelude.{◌≡◌, ◌↔◌, ℕ, ◌≤◌, List, length}
 use Rattle.sort_term.specs.declared.semantics.Con.{Con}
 use Rattle.sort_term.specs.declared.semantics.Table.{Table}
 use Rattle.sort_term.specs.declared.ids.SortId.{SortId}
@@ -11,13 +11,24 @@ use Rattle.sort_term.specs.Tree.{Tree, Trees}
 use Rattle.sort_term.specs.Rules.{IsRule, IsSemantics}
 use Rattle.sort_term.specs.Fits.{IsCut}
 use Rattle.sort_term.specs.Step.{Tables, Takes, StepsBy}
-use Rattle.sort_term.specs.Cuts.{Covers, IsMetIn, IsLongIn}
+use Rattle.sort_term.specs.Runs.{IsRun, rules_of, MetTo}
+use Rattle.sort_term.specs.Cuts.{InCut, Covers, IsMetIn, IsLongIn, IsHaltedIn, SucceedsIn}
 use Rattle.sort_term.specs.Verdict.{Kind, IsVerdict}
 
 -- where no run of n steps from s keeps its later states outside the cut, every met run from s has at most n steps
 abbrev pub MetRunsAreShort : Type 0 → Type 0
 MetRunsAreShort S =
     (sys : System) (tables : Tables) (cuts : List (Cut S)) (n : ℕ) (s : Tree) → ((run : List (ℕ × Tree)) → ¬ IsLongIn sys tables cuts n s run) → (run : List (ℕ × Tree)) → IsMetIn sys tables cuts s run → length run ≤ n
+
+-- and every halted run has
+abbrev pub HaltedRunsAreShort : Type 0 → Type 0
+HaltedRunsAreShort S =
+    (sys : System) (tables : Tables) (cuts : List (Cut S)) (n : ℕ) (s : Tree) → ((run : List (ℕ × Tree)) → ¬ IsLongIn sys tables cuts n s run) → (run : List (ℕ × Tree)) → IsHaltedIn sys tables cuts s run → length run ≤ n
+
+-- so the cut successors of s are the last states of the met runs of at most n steps
+abbrev pub SuccessorsAreNear : Type 0 → Type 0
+SuccessorsAreNear S =
+    (sys : System) (tables : Tables) (cuts : List (Cut S)) (n : ℕ) (s t : Tree) → ((run : List (ℕ × Tree)) → ¬ IsLongIn sys tables cuts n s run) → SucceedsIn sys tables cuts s t ↔ ((rules : List ℕ) × MetTo (StepsBy sys tables) (InCut sys.cons cuts) n s rules t)
 
 -- a problem has at most one verdict for a number of steps
 abbrev pub OneVerdict : Type 0
@@ -32,6 +43,11 @@ OneInstance =
 abbrev pub OneStep : Type 0
 OneStep =
     (sys : System) → IsSemantics sys → (tables : Tables) (n : ℕ) (s t u : Tree) → StepsBy sys tables n s t → StepsBy sys tables n s u → t ≡ u
+
+-- the rules alone fix a run of a semantics from a state
+abbrev pub RulesFixRuns : Type 0
+RulesFixRuns =
+    (sys : System) → IsSemantics sys → (tables : Tables) (s : Tree) (xs ys : List (ℕ × Tree)) → IsRun (StepsBy sys tables) s xs → IsRun (StepsBy sys tables) s ys → rules_of xs ≡ rules_of ys → xs ≡ ys
 
 -- an item of a cut that passed its checks covers a state under at most one valuation
 abbrev pub OneCover : Type 0 → Type 0

@@ -70,15 +70,22 @@ pub record Ends {S : Type 0} (P : List (ℕ × S) → Type 0) (s : S) (rules : L
 abbrev pub Succeeds : {S : Type 0} → (ℕ → S → S → Type 0) → (S → Type 0) → S → S → Type 0
 Succeeds {S} Steps In s t = (run : List (ℕ × S)) × IsMet Steps In s run × (reached s run ≡ t)
 
--- the rules and last states of the met runs with at most n steps, of the long runs with n, and of the halted runs with fewer than n
+-- a met run of at most n steps, and a halted one; beside them stand the long runs of n steps. The searches up to the cut find these three
+abbrev pub IsMetWithin : {S : Type 0} → (ℕ → S → S → Type 0) → (S → Type 0) → ℕ → S → List (ℕ × S) → Type 0
+IsMetWithin Steps In n s run = IsMet Steps In s run × (length run ≤ n)
+
+abbrev pub IsHaltedWithin : {S : Type 0} → (ℕ → S → S → Type 0) → (S → Type 0) → ℕ → S → List (ℕ × S) → Type 0
+IsHaltedWithin Steps In n s run = IsHalted Steps In s run × (length run ≤ n)
+
+-- their rules and last states
 abbrev pub MetTo : {S : Type 0} → (ℕ → S → S → Type 0) → (S → Type 0) → ℕ → S → List ℕ → S → Type 0
-MetTo Steps In n s = Ends (λ run. IsMet Steps In s run × (length run ≤ n)) s
+MetTo Steps In n s = Ends (IsMetWithin Steps In n s) s
 
 abbrev pub LongTo : {S : Type 0} → (ℕ → S → S → Type 0) → (S → Type 0) → ℕ → S → List ℕ → S → Type 0
 LongTo Steps In n s = Ends (IsLong Steps In n s) s
 
-abbrev pub HaltedBelow : {S : Type 0} → (ℕ → S → S → Type 0) → (S → Type 0) → ℕ → S → List ℕ → S → Type 0
-HaltedBelow Steps In n s = Ends (λ run. IsHalted Steps In s run × (length run < n)) s
+abbrev pub HaltedTo : {S : Type 0} → (ℕ → S → S → Type 0) → (S → Type 0) → ℕ → S → List ℕ → S → Type 0
+HaltedTo Steps In n s = Ends (IsHaltedWithin Steps In n s) s
 
 -- one step more than a run with P, to a state with Q
 pub record After {S : Type 0} (Steps : ℕ → S → S → Type 0) (P : List ℕ → S → Type 0) (Q : S → Type 0) (rules : List ℕ) (t : S) : Type 0 where

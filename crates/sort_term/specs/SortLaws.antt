@@ -1,5 +1,5 @@
 -- Laws of sorts.
-use Rattle.std.specs.Prelude.{ℕ, List}
+use Rattle.std.specs.Prelude.{ℕ, List, All}
 use Rattle.sort_term.specs.declared.term.Sort.{Sort}
 use Rattle.sort_term.specs.declared.semantics.Con.{Con}
 use Rattle.sort_term.specs.declared.rule.Pattern.{Pattern}
@@ -9,6 +9,7 @@ use Rattle.sort_term.specs.System.{System}
 use Rattle.sort_term.specs.Tree.{Tree, Trees, pattern_value, value}
 use Rattle.sort_term.specs.Sorted.{Fits, IsTreeOf, IsPatternOf, IsExprOf}
 use Rattle.sort_term.specs.Step.{Tables, StepsBy, IsState}
+use Rattle.sort_term.specs.Runs.{IsRun, reached}
 use Rattle.sort_term.specs.Rules.{IsSemantics}
 
 -- under a valuation that fits, an expression's value is of the expression's sort
@@ -22,3 +23,8 @@ PatternsKeepSorts = (cons : List Con) (vars : List Var) (v : Trees) (a : Sort) (
 -- a step of a semantics goes from a state to a state
 abbrev pub StepsKeepStates : Type 0
 StepsKeepStates = (sys : System) (tables : Tables) (n : ℕ) (s t : Tree) → IsSemantics sys → StepsBy sys tables n s t → IsState sys s × IsState sys t
+
+-- so a run of a semantics from a state goes through states alone
+abbrev pub RunsKeepStates : Type 0
+RunsKeepStates =
+    (sys : System) (tables : Tables) (s : Tree) (run : List (ℕ × Tree)) → IsSemantics sys → IsState sys s → IsRun (StepsBy sys tables) s run → All (λ x. IsState sys x.1) run × IsState sys (reached s run)

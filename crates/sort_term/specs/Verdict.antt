@@ -2,8 +2,8 @@
 use Rattle.std.specs.Prelude.{ℕ, ◌<◌}
 use Rattle.sort_term.specs.declared.points.Point.{Point}
 use Rattle.sort_term.specs.declared.problem.Problem.{Problem}
-use Rattle.sort_term.specs.Relation.{left, right, RightFails, LeftFails}
-use Rattle.sort_term.specs.Simulation.{IsPoint, Test, void, outside, long, halted, HasTest, IsUngrounded, IsGrounded, IsCutSimulation, IsCutBisimulation}
+use Rattle.sort_term.specs.Relation.{left, right, IsPoint, RightFails, LeftFails}
+use Rattle.sort_term.specs.Simulation.{Test, void, outside, long, halted, HasTest, IsUngrounded, IsGrounded, IsCutSimulation, IsCutBisimulation}
 
 -- the kind of a verdict, with the number of its point: not grounded by the test that holds, with its side; unmatched, always on the right side; refines, always on the left side; equivalent
 pub data Kind : Type 0 where

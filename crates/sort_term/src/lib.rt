@@ -3,6 +3,7 @@
 
 mod bound;
 mod fits;
+mod ground_laws;
 mod ids;
 mod named;
 mod node_term_laws;
@@ -10,6 +11,7 @@ mod partner_laws;
 mod points;
 mod problem;
 mod program;
+mod relation_laws;
 mod reserved;
 mod rule;
 mod rule_checks;
@@ -27,13 +29,17 @@ pub use fits::{
     are_cuts, are_determined, are_points, are_rows, are_whens, has_key, is_cut, is_point,
     is_program, is_row,
 };
+pub use ground_laws::{runs_split_at_cuts, well_grounded_is_grounded};
 pub use ids::{ConId, RuleId, RuleIds, SortId, TableId};
 pub use named::{Named, are_distinct, are_free, has_name};
-pub use node_term_laws::{ground_terms_are_trees, terms_mean_their_sorts, terms_stay};
+pub use node_term_laws::{
+    ground_terms_are_trees, terms_depend_on_variables, terms_mean_their_sorts, terms_stay,
+};
 pub use partner_laws::partners_leave_no_failure;
 pub use points::{Cut, Cuts, Point, PointList, Points};
 pub use problem::Problem;
 pub use program::{Program, Row, RowLists, Rows};
+pub use relation_laws::related_pairs_have_one_valuation;
 pub use reserved::{RESERVED_WORDS, is_reserved};
 pub use rule::{
     Demand, Demands, Pattern, Patterns, Rule, RuleExpr, RuleExprs, Rules, Source, Var, Vars,

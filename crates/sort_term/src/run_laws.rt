@@ -1,12 +1,15 @@
 //! Laws of runs, steps and verdicts, for readers of the contracts. Each function does nothing; its contract is the law.
-ghost use Rattle.sort_term.specs.RunLaws.{MetRunsAreShort, OneVerdict, OneInstance, OneStep, OneCover};
+ghost use Rattle.sort_term.specs.RunLaws.{MetRunsAreShort, HaltedRunsAreShort, SuccessorsAreNear, OneVerdict, OneInstance, OneStep, RulesFixRuns, OneCover};
 
 use crate::term::Side;
 
 /// Where no run of n steps from a state keeps its later states outside the cut, every run from that state up to the first
 /// later state in the cut has at most n steps.
+/// The same holds of the runs that stop outside the cut. So the cut successors are what runs of at most n steps reach.
 pub fn met_runs_are_short<S: Side>()
-    ensures { MetRunsAreShort S }
+    ensures met { MetRunsAreShort S }
+    ensures halted { HaltedRunsAreShort S }
+    ensures successors { SuccessorsAreNear S }
 {}
 
 /// A problem has at most one verdict for a number of steps.
@@ -15,10 +18,11 @@ pub fn verdict_is_unique()
 {}
 
 /// A rule that passed its checks takes a state to at most one state, under at most one valuation of its variables. So each
-/// rule of a semantics gives at most one step from a state.
+/// rule of a semantics gives at most one step from a state, and the rules alone fix a run from there.
 pub fn rule_steps_are_unique()
     ensures instance { OneInstance }
     ensures step { OneStep }
+    ensures runs { RulesFixRuns }
 {}
 
 /// An item of a cut that passed its checks covers a state under at most one valuation of its variables.
