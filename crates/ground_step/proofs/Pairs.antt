@@ -16,10 +16,10 @@ use Rattle.sort_term.specs.declared.term.Sort.TheVariants.{Own, Plain}
 use Rattle.sort_term.specs.declared.term.Term.TheVariants as term
 use Rattle.sort_term.specs.declared.semantics.Con.{Con}
 use Rattle.sort_term.specs.declared.points.Point.{Point}
+use Rattle.sort_term.specs.declared.problem.Problem.{Problem}
 use Rattle.sort_term.specs.declared.rule.Var.{Var}
 use Rattle.sort_term.specs.declared.rule.RuleExpr.{RuleExpr}
 use Rattle.sort_term.specs.declared.rule.RuleExpr.TheVariants as expr
-use Rattle.sort_term.specs.System.{System}
 use Rattle.sort_term.specs.Tree.{Tree, Trees, plain_of, value}
 use Rattle.sort_term.specs.Sorted.{applied_sort, var_sort, tree_sort, expr_sort}
 use Rattle.sort_term.specs.Signature.{is_plain}
@@ -27,7 +27,7 @@ use Rattle.sort_term.specs.Stands.{is_argument, argument_of}
 use Rattle.sort_term.specs.Step.{IsState}
 use Rattle.sort_term.specs.Cuts.{AllTrue}
 use Rattle.sort_term.specs.Fits.{IsPointOf}
-use Rattle.sort_term.specs.Relation.{Relates, Related}
+use Rattle.sort_term.specs.Relation.{IsPoint, Relates, Related}
 use Rattle.sort_term.specs.NodeTerms.{seen_sort}
 use Rattle.sort_term.proofs.Agreeing.{fits_long}
 use Rattle.sort_term.proofs.Each.{Each}
@@ -140,37 +140,37 @@ module _ (cons : List Con) (vars : List Var) where
       op_stays
       (λ k es e. con_stays k es)
 
-module _ (l r : System) (p : Point) (a b : Tree) (checked : IsPointOf l r p) (sa : IsState l a) (sb : IsState r b) where
-  left_sorted : IsSome (expr_sort l.cons p.vars p.left)
+module _ (q : Problem) (p : Point) (a b : Tree) (checked : IsPointOf q.left q.right p) (sa : IsState q.left a) (sb : IsState q.right b) where
+  left_sorted : IsSome (expr_sort q.left.cons p.vars p.left)
   left_sorted = subst IsSome (sym checked.left_term.is) (search rules)
 
-  right_sorted : IsSome (expr_sort r.cons p.vars p.right)
+  right_sorted : IsSome (expr_sort q.right.cons p.vars p.right)
   right_sorted = subst IsSome (sym checked.right_term.is) (search rules)
 
   abbrev None_bound : Bound
   None_bound = replicate (length p.vars) None
 
   pub left_within : (bs : Bound) → length bs ≡ length p.vars → ReadsWithin (length bs) p.left
-  left_within bs e = record { below = λ i h. subst (λ n. i < n) (sym e) (declares l.cons p.vars p.left left_sorted i h) }
+  left_within bs e = record { below = λ i h. subst (λ n. i < n) (sym e) (declares q.left.cons p.vars p.left left_sorted i h) }
 
   pub right_within : (bs : Bound) → length bs ≡ length p.vars → ReadsWithin (length bs) p.right
-  right_within bs e = record { below = λ i h. subst (λ n. i < n) (sym e) (declares r.cons p.vars p.right right_sorted i h) }
+  right_within bs e = record { below = λ i h. subst (λ n. i < n) (sym e) (declares q.right.cons p.vars p.right right_sorted i h) }
 
-  starts : (v : Trees) → Relates p v a b → Agrees None_bound v
+  starts : (v : Trees) → Relates q p v a b → Agrees None_bound v
   starts v x = subst (λ n. Agrees (replicate n None) v) (fits_long [] p.vars v x.holds.fits) (agrees_none v)
 
-  pub left_apart : (mid : Bound) → Determines None_bound mid false p.left a → (v : Trees) → ¬ Relates p v a b
+  pub left_apart : (mid : Bound) → Determines None_bound mid false p.left a → (v : Trees) → ¬ Relates q p v a b
   left_apart mid d v x = let h : false ≡ true = (d.complete v (starts v x) x.left).0 in absurd (cc)
 
   module _ (mid : Bound) (dl : Determines None_bound mid true p.left a) where
-    pub right_apart : (new : Bound) → Determines mid new false p.right b → (v : Trees) → ¬ Relates p v a b
+    pub right_apart : (new : Bound) → Determines mid new false p.right b → (v : Trees) → ¬ Relates q p v a b
     right_apart new d v x = let h : false ≡ true = (d.complete v (dl.complete v (starts v x) x.left).1 x.right).0 in absurd (cc)
 
     module _ (new : Bound) (dr : Determines mid new true p.right b) where
       pub as_many : length new ≡ length p.vars
       as_many = dr.keeps ∙ dl.keeps ∙ length-replicate (length p.vars) None
 
-      agrees : (v : Trees) → Relates p v a b → Agrees new v
+      agrees : (v : Trees) → Relates q p v a b → Agrees new v
       agrees v x = (dr.complete v (dl.complete v (starts v x) x.left).1 x.right).1
 
       to_any : (cons other : List Con) (i : ℕ) → i < length p.vars → IsKnown cons p.vars new i → IsKnown other p.vars new i
@@ -183,8 +183,8 @@ module _ (l r : System) (p : Point) (a b : Tree) (checked : IsPointOf l r p) (sa
         where
           go : IsTrue (is_argument i p.left) ⊎ IsTrue (is_argument i p.right) → IsKnown cons p.vars new i
           go (inl h) =
-              to_any l.cons cons i m (stays_known l.cons p.vars mid new i dr.keeps (λ v x. dr.sound v x refl) (dl.known refl l.cons p.vars (Own l.config) checked.left_term.is sa.is i (or_right (argument_of i p.left).0 (argument_of i p.left).1 h)))
-          go (inr h) = to_any r.cons cons i m (dr.known refl r.cons p.vars (Own r.config) checked.right_term.is sb.is i (or_right (argument_of i p.right).0 (argument_of i p.right).1 h))
+              to_any q.left.cons cons i m (stays_known q.left.cons p.vars mid new i dr.keeps (λ v x. dr.sound v x refl) (dl.known refl q.left.cons p.vars (Own q.left.config) checked.left_term.is sa.is i (or_right (argument_of i p.left).0 (argument_of i p.left).1 h)))
+          go (inr h) = to_any q.right.cons cons i m (dr.known refl q.right.cons p.vars (Own q.right.config) checked.right_term.is sb.is i (or_right (argument_of i p.right).0 (argument_of i p.right).1 h))
 
       -- each variable has a tree of its sort
       all_known : (cons : List Con) → AreBinds cons p.vars (nodes new)
@@ -193,7 +193,7 @@ module _ (l r : System) (p : Point) (a b : Tree) (checked : IsPointOf l r p) (sa
         sorted = λ i t h.
             let u = tree_there new i t h in
             let k = known cons i (let m = slice_get_within new i (Some u.0) u.1 in subst (λ n. i < n) as_many m) in
-            let q : Some (Some u.0) ≡ Some (Some k.tree) = sym u.1 ∙ k.there in
+            let found : Some (Some u.0) ≡ Some (Some k.tree) = sym u.1 ∙ k.there in
             let is : u.0 ≡ k.tree = cc in
             ap (seen_sort cons) u.2 ∙ ground_sort cons u.0 ∙ ap (tree_sort cons) is ∙ k.sorted;
       }
@@ -206,16 +206,16 @@ module _ (l r : System) (p : Point) (a b : Tree) (checked : IsPointOf l r p) (sa
         known = λ i x. let k = known cons i (declares cons p.vars e h i x) in subst IsSome (sym (bound_seen ground_seen new i k.tree k.there)) refl;
       }
 
-      pub left_ready : IsReady l.cons new p.left
-      left_ready = ready l.cons p.left left_sorted
+      pub left_ready : IsReady q.left.cons new p.left
+      left_ready = ready q.left.cons p.left left_sorted
 
-      pub right_ready : IsReady r.cons new p.right
-      right_ready = ready r.cons p.right right_sorted
+      pub right_ready : IsReady q.right.cons new p.right
+      right_ready = ready q.right.cons p.right right_sorted
 
-      pub whens_ready : All (IsReady l.cons new) p.whens
+      pub whens_ready : All (IsReady q.left.cons new) p.whens
       whens_ready k d m =
-          let is = sort_stays l.cons p.vars (get_or p.whens k d) (Plain BoolSort) (checked.whens.sorted k d m).is in
-          ready l.cons (get_or p.whens k d) (subst IsSome (sym is) (search rules))
+          let is = sort_stays q.left.cons p.vars (get_or p.whens k d) (Plain BoolSort) (checked.whens.sorted k d m).is in
+          ready q.left.cons (get_or p.whens k d) (subst IsSome (sym is) (search rules))
 
       pub values_bound : All IsValueBound new
       values_bound i d m =
@@ -226,10 +226,10 @@ module _ (l r : System) (p : Point) (a b : Tree) (checked : IsPointOf l r p) (sa
           (x.0, get_or_from_slice_get new i (Some k.tree) d k.there ∙ ap Some x.1)
 
       -- what a related pair has, no answer no can deny
-      pub pair_apart : (P : Trees → Type 0) → Narrows new new false P → ((v : Trees) → Relates p v a b → P v) → (v : Trees) → ¬ Relates p v a b
-      pair_apart P n h v x = let q : false ≡ true = (n.complete v (agrees v x) (h v x)).0 in absurd (cc)
+      pub pair_apart : (P : Trees → Type 0) → Narrows new new false P → ((v : Trees) → Relates q p v a b → P v) → (v : Trees) → ¬ Relates q p v a b
+      pair_apart P n h v x = let no : false ≡ true = (n.complete v (agrees v x) (h v x)).0 in absurd (cc)
 
-      pub only_fit : (values : List Value) → map some_plain values ≡ new → Narrows new new true (λ v. value v p.left ≡ a) → Narrows new new true (λ v. value v p.right ≡ b) → Narrows new new true (λ v. AllTrue v p.whens) → IsOnlyFit p a b values
+      pub only_fit : (values : List Value) → map some_plain values ≡ new → Narrows new new true (λ v. value v p.left ≡ a) → Narrows new new true (λ v. value v p.right ≡ b) → Narrows new new true (λ v. AllTrue v p.whens) → IsOnlyFit q p a b values
       only_fit values e nl nr nw =
           let v = plain_trees values in
           let g : Agrees new v = subst (λ bs. Agrees bs v) e (agrees_self values) in
@@ -245,36 +245,36 @@ module _ (l r : System) (p : Point) (a b : Tree) (checked : IsPointOf l r p) (sa
             only = λ w x. agrees_only values w (subst (λ bs. Agrees bs w) (sym e) (agrees w x));
           }
 
-pub relation_none : (points : List Point) (n : ℕ) (p : Point) (a b : Tree) → slice_get points n ≡ Some p → ((v : Trees) → ¬ Relates p v a b) → RelationIs points n a b None
-relation_none points n p a b there h = record { point = p; there = there; fits = λ values e. absurd (cc); some = λ v x. absurd (h v x) }
+pub relation_none : (q : Problem) (n : ℕ) (p : Point) (a b : Tree) → IsPoint q n p → ((v : Trees) → ¬ Relates q p v a b) → RelationIs q n a b None
+relation_none q n p a b there h = record { point = p; there = there; fits = λ values e. absurd (cc); some = λ v x. absurd (h v x) }
 
-pub relation_some : (points : List Point) (n : ℕ) (p : Point) (a b : Tree) (values : List Value) → slice_get points n ≡ Some p → IsOnlyFit p a b values → RelationIs points n a b (Some values)
-relation_some points n p a b values there f = record {
+pub relation_some : (q : Problem) (n : ℕ) (p : Point) (a b : Tree) (values : List Value) → IsPoint q n p → IsOnlyFit q p a b values → RelationIs q n a b (Some values)
+relation_some q n p a b values there f = record {
   point = p;
   there = there;
-  fits = λ found e. let q : values ≡ found = cc in subst (IsOnlyFit p a b) q f;
+  fits = λ found e. let same : values ≡ found = cc in subst (IsOnlyFit q p a b) same f;
   some = λ v x. (values, refl);
 }
 
 -- none of the first points relates the pair
-pub record NoneBefore (points : List Point) (a b : Tree) (n : ℕ) : Type 0 where
-  pub none : (j : ℕ) (p : Point) (v : Trees) → j < n → slice_get points j ≡ Some p → ¬ Relates p v a b
+pub record NoneBefore (q : Problem) (a b : Tree) (n : ℕ) : Type 0 where
+  pub none : (j : ℕ) (p : Point) (v : Trees) → j < n → IsPoint q j p → ¬ Relates q p v a b
 
-pub none_more : (points : List Point) (a b : Tree) (n : ℕ) → NoneBefore points a b n → RelationIs points n a b None → NoneBefore points a b (n + 1)
-none_more points a b n before is = record { none = λ j p v l there x. go j p v l there x (cases_lt j n) }
+pub none_more : (q : Problem) (a b : Tree) (n : ℕ) → NoneBefore q a b n → RelationIs q n a b None → NoneBefore q a b (n + 1)
+none_more q a b n before is = record { none = λ j p v l there x. go j p v l there x (cases_lt j n) }
   where
-    go : (j : ℕ) (p : Point) (v : Trees) → j < n + 1 → slice_get points j ≡ Some p → Relates p v a b → (j < n) ⊎ (n ≤ j) → ⊥
+    go : (j : ℕ) (p : Point) (v : Trees) → j < n + 1 → IsPoint q j p → Relates q p v a b → (j < n) ⊎ (n ≤ j) → ⊥
     go j p v l there x (inl m) = before.none j p v m there x
     go j p v l there x (inr m) =
         let e : j ≡ n = omega arith in
-        let q : Some p ≡ Some is.point = sym (subst (λ k. slice_get points k ≡ Some p) e there) ∙ is.there in
+        let both : Some p ≡ Some is.point = sym (subst (λ k. IsPoint q k p) e there) ∙ is.there in
         let same : p ≡ is.point = cc in
-        let s = is.some v (subst (λ y. Relates y v a b) same x) in
+        let s = is.some v (subst (λ y. Relates q y v a b) same x) in
         let none : None ≡ Some s.0 = s.1 in
         cc
 
-pub none_at_all : (points : List Point) (a b : Tree) (n : ℕ) → length points ≤ n → NoneBefore points a b n → ¬ Related points a b
-none_at_all points a b n l before x = before.none x.place x.point x.valuation (let m = slice_get_within points x.place x.point x.there in omega arith) x.there x.relates
+pub none_at_all : (q : Problem) (a b : Tree) (n : ℕ) → length q.points.points ≤ n → NoneBefore q a b n → ¬ Related q a b
+none_at_all q a b n l before x = before.none x.place x.point x.valuation (let m = slice_get_within q.points.points x.place x.point x.there in omega arith) x.there x.relates
 
 -- the value that a variable is bound to
 pub value_of_bound : (o : Option Tree) (t : Tree) → IsValueBound o → o ≡ Some t → some_plain (plain_of t) ≡ o

@@ -1,5 +1,5 @@
 -- How a point relates a pair of states, and what the pair determines.
-use Rattle.std.specs.Prelude.{◌≡◌, ℕ, ◌<◌, Bool, ◌||◌, IsTrue, List, [], length, map, slice_get, Option, Some}
+use Rattle.std.specs.Prelude.{◌≡◌, ℕ, ◌<◌, Bool, ◌||◌, IsTrue, List, [], length, map, Option, Some}
 use Rattle.std.specs.List.{list_any}
 use Rattle.data_value.specs.declared.Value.{Value}
 use Rattle.sort_term.specs.declared.term.Config.{Config}
@@ -7,12 +7,13 @@ use Rattle.sort_term.specs.declared.term.Sort.{Sort}
 use Rattle.sort_term.specs.declared.term.Term.TheVariants.{Plain}
 use Rattle.sort_term.specs.declared.semantics.Con.{Con}
 use Rattle.sort_term.specs.declared.points.Point.{Point}
+use Rattle.sort_term.specs.declared.problem.Problem.{Problem}
 use Rattle.sort_term.specs.declared.rule.Var.{Var}
 use Rattle.sort_term.specs.declared.rule.RuleExpr.{RuleExpr}
 use Rattle.sort_term.specs.Tree.{Tree, Trees, value}
 use Rattle.sort_term.specs.Sorted.{tree_sort, expr_sort}
 use Rattle.sort_term.specs.Stands.{reads, argument_of}
-use Rattle.sort_term.specs.Relation.{Relates}
+use Rattle.sort_term.specs.Relation.{IsPoint, Relates}
 use Rattle.ground_step.specs.declared.relation.Fit.{Fit}
 use Rattle.ground_step.specs.Binds.{Bound, Agrees}
 use Rattle.ground_step.specs.Ready.{IsKnown}
@@ -22,23 +23,23 @@ abbrev pub plain_trees : List Value → Trees
 plain_trees values = map Plain values
 
 -- the point relates a and b under these values, and under no other valuation
-pub record IsOnlyFit (p : Point) (a b : Tree) (values : List Value) : Type 0 where
-  pub relates : Relates p (plain_trees values) a b
-  pub only : (v : Trees) → Relates p v a b → v ≡ plain_trees values
+pub record IsOnlyFit (q : Problem) (p : Point) (a b : Tree) (values : List Value) : Type 0 where
+  pub relates : Relates q p (plain_trees values) a b
+  pub only : (v : Trees) → Relates q p v a b → v ≡ plain_trees values
 
 -- the first point that relates a and b, with the one valuation
-pub record IsFirstFit (points : List Point) (a b : Tree) (fit : Fit) : Type 0 where
+pub record IsFirstFit (q : Problem) (a b : Tree) (fit : Fit) : Type 0 where
   pub point : Point
-  pub there : slice_get points fit.point ≡ Some point
-  pub fits : IsOnlyFit point a b fit.values
-  pub first : (j : ℕ) (p : Point) (v : Trees) → j < fit.point → slice_get points j ≡ Some p → ¬ Relates p v a b
+  pub there : IsPoint q fit.point point
+  pub fits : IsOnlyFit q point a b fit.values
+  pub first : (j : ℕ) (p : Point) (v : Trees) → j < fit.point → IsPoint q j p → ¬ Relates q p v a b
 
 -- the values by which the point with the number n relates a and b, if there are some
-pub record RelationIs (points : List Point) (n : ℕ) (a b : Tree) (o : Option (List Value)) : Type 0 where
+pub record RelationIs (q : Problem) (n : ℕ) (a b : Tree) (o : Option (List Value)) : Type 0 where
   pub point : Point
-  pub there : slice_get points n ≡ Some point
-  pub fits : (values : List Value) → o ≡ Some values → IsOnlyFit point a b values
-  pub some : (v : Trees) → Relates point v a b → (values : List Value) × (o ≡ Some values)
+  pub there : IsPoint q n point
+  pub fits : (values : List Value) → o ≡ Some values → IsOnlyFit q point a b values
+  pub some : (v : Trees) → Relates q point v a b → (values : List Value) × (o ≡ Some values)
 
 -- the two states of a point without variables
 abbrev pub AreOf : {S T : Type 0} → Point → Config S Value × Config T Value → Type 0

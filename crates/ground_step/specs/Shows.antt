@@ -5,8 +5,8 @@ use Rattle.sort_term.specs.declared.problem.Problem.{Problem}
 use Rattle.sort_term.specs.declared.term.Term.TheVariants.{Plain}
 use Rattle.sort_term.specs.Tree.{Tree}
 use Rattle.sort_term.specs.Runs.{IsRun, reached, rules_of, IsMet, IsLong, IsHalted}
-use Rattle.sort_term.specs.Relation.{Side, left, right, Relates, Related, of_side, StepsOf, InCutOf, SucceedsOf}
-use Rattle.sort_term.specs.Simulation.{IsPoint, void, outside, long, halted}
+use Rattle.sort_term.specs.Relation.{Side, left, right, IsPoint, Relates, Related, of_side, StepsOf, InCutOf, SucceedsOf}
+use Rattle.sort_term.specs.Simulation.{void, outside, long, halted}
 use Rattle.sort_term.specs.Verdict.{Kind, ungrounded, unmatched, refines, equivalent, IsVerdict}
 use Rattle.ground_step.specs.declared.verdict.SideName.{SideName}
 use Rattle.ground_step.specs.declared.verdict.SideName.TheVariants as name
@@ -46,9 +46,9 @@ ShowsKind q n (ungrounded k (outside s)) side a b run t = (run ≡ []) × ¬ InC
 ShowsKind q n (ungrounded k (long s)) side a b run t = IsLong (StepsOf q side) (InCutOf q side) n (of_side side a b) run
 ShowsKind q n (ungrounded k (halted s)) side a b run t = IsHalted (StepsOf q side) (InCutOf q side) (of_side side a b) run
 ShowsKind q n (unmatched k) side a b run t =
-    IsMet (StepsOf q right) (InCutOf q right) b run × ((a' : Tree) → SucceedsOf q left a a' → ¬ Related q.points.points a' t)
+    IsMet (StepsOf q right) (InCutOf q right) b run × ((a' : Tree) → SucceedsOf q left a a' → ¬ Related q a' t)
 ShowsKind q n (refines k) side a b run t =
-    IsMet (StepsOf q left) (InCutOf q left) a run × ((b' : Tree) → SucceedsOf q right b b' → ¬ Related q.points.points t b')
+    IsMet (StepsOf q left) (InCutOf q left) a run × ((b' : Tree) → SucceedsOf q right b b' → ¬ Related q t b')
 ShowsKind q n equivalent side a b run t = ⊥
 
 -- a failure shows the verdict of a problem for n steps: a ground run from a related pair of the verdict's point, on the verdict's side
@@ -59,7 +59,7 @@ pub record Shows (q : Problem) (n : ℕ) (kind : Kind) (f : Failure) : Type 0 wh
   -- its states are a related pair of that point under its values
   pub point : Point
   pub there : IsPoint q f.point point
-  pub pair : Relates point (map (λ x. Plain x) f.values) f.left.term f.right.term
+  pub pair : Relates q point (map (λ x. Plain x) f.values) f.left.term f.right.term
   -- its rules are those of a run of that side from that side's state to the state that it reaches
   pub run : List (ℕ × Tree)
   pub runs : IsRun (StepsOf q (side_of f.side)) (of_side (side_of f.side) f.left.term f.right.term) run

@@ -37,7 +37,7 @@ pub fn related(
 ) -> Result<Option<Fit>, NoMemory>
     requires left { IsState problem.now.left left.now.term }
     requires right { IsState problem.now.right right.now.term }
-    ensures { IfOk result (λ fit. MatchOption fit (¬ Related problem.now.points.points left.now.term right.now.term) (IsFirstFit problem.now.points.points left.now.term right.now.term)) }
+    ensures { IfOk result (λ fit. MatchOption fit (¬ Related problem.now left.now.term right.now.term) (IsFirstFit problem.now left.now.term right.now.term)) }
 {
     for place in 0..problem.points.points.len() {
         if let Some(values) = relates(alloc, problem, place, left.term(), right.term())? {
@@ -62,7 +62,7 @@ fn relates(
     requires there { place < length problem.now.points.points }
     requires left { IsState problem.now.left left.now }
     requires right { IsState problem.now.right right.now }
-    ensures { IfOk result (λ values. RelationIs problem.now.points.points place left.now right.now values) }
+    ensures { IfOk result (λ values. RelationIs problem.now place left.now right.now values) }
 {
     let point = &problem.points.points.as_slice()[place];
     let mut binds = unbound(alloc, point.vars.len())?;
