@@ -9,7 +9,8 @@ use Rattle.sort_term.specs.declared.term.Right.{Right}
 use Rattle.sort_term.specs.Tree.{Tree}
 use Rattle.sort_term.specs.Runs.{reached, IsMet}
 use Rattle.sort_term.specs.Relation.{Side, left, right, of_side, Related, StepsOf, InCutOf, SucceedsOf, RightFails, LeftFails}
-use Rattle.sort_term.specs.Simulation.{RightMatches, LeftMatches}
+use Rattle.sort_term.specs.Meeting.{AlwaysMeets}
+use Rattle.sort_term.specs.Simulation.{IsWellGroundedAt, RightMatches, LeftMatches}
 use Rattle.sort_term.specs.Verdict.{FirstTest}
 use Rattle.ground_step.specs.Reach.{Path, From, AreExactly, MetFrom, LongFrom, HaltedFrom, end_of, runs_of}
 use Rattle.ground_step.specs.declared.reach.GroundReach.{GroundReach}
@@ -18,11 +19,9 @@ use Rattle.ground_judge.specs.declared.kind.FailedTest.{FailedTest}
 use Rattle.ground_judge.specs.declared.kind.FailedTest.TheVariants.{Void, Outside, Long, Halted}
 use Rattle.ground_judge.specs.Ground.{IsOnlyPair}
 use Rattle.ground_judge.specs.Kinds.{test_of}
-use Rattle.ground_judge.specs.Meeting.{AlwaysMeets}
-use Rattle.ground_judge.specs.Grounded.{IsWellGroundedAt}
 use Rattle.ground_judge.specs.Found.{Keeps, NoEscape, FirstEscape, AreRightsMatched, IsRightUnmatched, AreLeftsMatched, IsLeftUnmatched}
 use Rattle.ground_judge.proofs.Keeping.{some_long, some_halted, no_long, no_halted, are_met, no_runs}
-use Rattle.ground_judge.proofs.Tests.{some_pair, each_pair, first_long_left, first_long_right, first_halted_left, first_halted_right}
+use Rattle.ground_judge.proofs.Tests.{some_pair, each_pair, only_state, first_long_left, first_long_right, first_halted_left, first_halted_right}
 
 -- where these are all met runs from s, the cut successors of s are their last states
 module _ (q : Problem) (side : Side) (s : Tree) (runs : List Path) (exactly : AreExactly (From s (IsMet (StepsOf q side) (InCutOf q side) s)) runs) where
@@ -32,13 +31,16 @@ module _ (q : Problem) (side : Side) (s : Tree) (runs : List Path) (exactly : Ar
   ended : (t : Tree) → SucceedsOf q side s t → (r : Path) × Contains runs r × (end_of r ≡ t)
   ended t h = ((s, h.0), exactly.complete (s, h.0) (refl, h.1), h.2)
 
-module _ (q : Problem) (n : ℕ) (p : Point) (a b : Tree) (only : IsOnlyPair p a b) where
+module _ (q : Problem) (n : ℕ) (p : Point) (a b : Tree) (only : IsOnlyPair q p a b) where
   module _ (lefts rights : List Path) (kl : Keeps (StepsOf q left) (InCutOf q left) n a lefts) (kr : Keeps (StepsOf q right) (InCutOf q right) n b rights) where
     pub well : IsWellGroundedAt q n p
     well = record {
       held = ([], only.relates.holds);
-      inside = λ side. each_pair q n p a b only (λ c d. InCutOf q side (of_side side c d)) (inside side);
-      meets = λ side. each_pair q n p a b only (λ c d. AlwaysMeets (StepsOf q side) (InCutOf q side) n (of_side side c d)) (meets side);
+      sides = λ side.
+          record {
+            inside = λ s x. subst (InCutOf q side) (only_state q n p a b only side s x) (inside side);
+            meets = λ s x. subst (AlwaysMeets (StepsOf q side) (InCutOf q side) n) (only_state q n p a b only side s x) (meets side);
+          };
     }
       where
         inside : (side : Side) → InCutOf q side (of_side side a b)
@@ -49,44 +51,44 @@ module _ (q : Problem) (n : ℕ) (p : Point) (a b : Tree) (only : IsOnlyPair p a
         meets left = kl.1.meets
         meets right = kr.1.meets
 
-    pub rights_match : AreRightsMatched q.points.points lefts rights → RightMatches q p
+    pub rights_match : AreRightsMatched q lefts rights → RightMatches q p
     rights_match m =
-        each_pair q n p a b only (λ c d. (b' : Tree) → SucceedsOf q right d b' → (a' : Tree) × SucceedsOf q left c a' × Related q.points.points a' b') (λ b' h. partner b' (ended q right b rights kr.1.exactly b' h))
+        each_pair q n p a b only (λ c d. (b' : Tree) → SucceedsOf q right d b' → (a' : Tree) × SucceedsOf q left c a' × Related q a' b') (λ b' h. partner b' (ended q right b rights kr.1.exactly b' h))
       where
-        partner : (b' : Tree) → (r : Path) × Contains rights r × (end_of r ≡ b') → (a' : Tree) × SucceedsOf q left a a' × Related q.points.points a' b'
+        partner : (b' : Tree) → (r : Path) × Contains rights r × (end_of r ≡ b') → (a' : Tree) × SucceedsOf q left a a' × Related q a' b'
         partner b' r =
-            let l = All-contains (λ x. Any (λ y. Related q.points.points (end_of y) (end_of x)) lefts) rights r.0 m r.1 in (
+            let l = All-contains (λ x. Any (λ y. Related q (end_of y) (end_of x)) lefts) rights r.0 m r.1 in (
               end_of l.1,
               All-contains (λ x. SucceedsOf q left a (end_of x)) lefts l.1 (ends q left a lefts kl.1.exactly) (l.0, l.2, l.3),
-              subst (Related q.points.points (end_of l.1)) r.2 l.4,
+              subst (Related q (end_of l.1)) r.2 l.4,
             )
 
-    pub lefts_match : AreLeftsMatched q.points.points lefts rights → LeftMatches q p
+    pub lefts_match : AreLeftsMatched q lefts rights → LeftMatches q p
     lefts_match m =
-        each_pair q n p a b only (λ c d. (a' : Tree) → SucceedsOf q left c a' → (b' : Tree) × SucceedsOf q right d b' × Related q.points.points a' b') (λ a' h. partner a' (ended q left a lefts kl.1.exactly a' h))
+        each_pair q n p a b only (λ c d. (a' : Tree) → SucceedsOf q left c a' → (b' : Tree) × SucceedsOf q right d b' × Related q a' b') (λ a' h. partner a' (ended q left a lefts kl.1.exactly a' h))
       where
-        partner : (a' : Tree) → (l : Path) × Contains lefts l × (end_of l ≡ a') → (b' : Tree) × SucceedsOf q right b b' × Related q.points.points a' b'
+        partner : (a' : Tree) → (l : Path) × Contains lefts l × (end_of l ≡ a') → (b' : Tree) × SucceedsOf q right b b' × Related q a' b'
         partner a' l =
-            let r = All-contains (λ x. Any (λ y. Related q.points.points (end_of x) (end_of y)) rights) lefts l.0 m l.1 in (
+            let r = All-contains (λ x. Any (λ y. Related q (end_of x) (end_of y)) rights) lefts l.0 m l.1 in (
               end_of r.1,
               All-contains (λ x. SucceedsOf q right b (end_of x)) rights r.1 (ends q right b rights kr.1.exactly) (r.0, r.2, r.3),
-              subst (λ x. Related q.points.points x (end_of r.1)) l.2 r.4,
+              subst (λ x. Related q x (end_of r.1)) l.2 r.4,
             )
 
-    pub right_fails : IsRightUnmatched q.points.points lefts rights → RightFails q p
+    pub right_fails : IsRightUnmatched q lefts rights → RightFails q p
     right_fails u =
-        some_pair q n p a b only (λ c d. (b' : Tree) × SucceedsOf q right d b' × ((a' : Tree) → SucceedsOf q left c a' → ¬ Related q.points.points a' b')) (
+        some_pair q n p a b only (λ c d. (b' : Tree) × SucceedsOf q right d b' × ((a' : Tree) → SucceedsOf q left c a' → ¬ Related q a' b')) (
           end_of u.1,
           All-contains (λ x. SucceedsOf q right b (end_of x)) rights u.1 (ends q right b rights kr.1.exactly) (u.0, u.2, u.3),
-          λ a' h. let l = ended q left a lefts kl.1.exactly a' h in subst (λ x. ¬ Related q.points.points x (end_of u.1)) l.2 (All-contains (λ y. ¬ Related q.points.points (end_of y) (end_of u.1)) lefts l.0 u.4 l.1),
+          λ a' h. let l = ended q left a lefts kl.1.exactly a' h in subst (λ x. ¬ Related q x (end_of u.1)) l.2 (All-contains (λ y. ¬ Related q (end_of y) (end_of u.1)) lefts l.0 u.4 l.1),
         )
 
-    pub left_fails : IsLeftUnmatched q.points.points lefts rights → LeftFails q p
+    pub left_fails : IsLeftUnmatched q lefts rights → LeftFails q p
     left_fails u =
-        some_pair q n p a b only (λ c d. (a' : Tree) × SucceedsOf q left c a' × ((b' : Tree) → SucceedsOf q right d b' → ¬ Related q.points.points a' b')) (
+        some_pair q n p a b only (λ c d. (a' : Tree) × SucceedsOf q left c a' × ((b' : Tree) → SucceedsOf q right d b' → ¬ Related q a' b')) (
           end_of u.1,
           All-contains (λ x. SucceedsOf q left a (end_of x)) lefts u.1 (ends q left a lefts kl.1.exactly) (u.0, u.2, u.3),
-          λ b' h. let r = ended q right b rights kr.1.exactly b' h in subst (λ x. ¬ Related q.points.points (end_of u.1) x) r.2 (All-contains (λ y. ¬ Related q.points.points (end_of u.1) (end_of y)) rights r.0 u.4 r.1),
+          λ b' h. let r = ended q right b rights kr.1.exactly b' h in subst (λ x. ¬ Related q (end_of u.1) x) r.2 (All-contains (λ y. ¬ Related q (end_of u.1) (end_of y)) rights r.0 u.4 r.1),
         )
 
   -- the lists of all runs from both states

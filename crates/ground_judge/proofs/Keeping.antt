@@ -8,14 +8,14 @@ use Rattle.sort_term.specs.Rules.{IsSemantics}
 use Rattle.sort_term.specs.Step.{Tables, StepsBy, IsState}
 use Rattle.sort_term.specs.Cuts.{InCut}
 use Rattle.sort_term.specs.Runs.{reached, IsMet, IsLong, IsHalted}
-use Rattle.sort_term.proofs.RunLemmas.{met_short}
+use Rattle.sort_term.proofs.Meets.{always_meets}
+use Rattle.sort_term.proofs.RunLemmas.{met_short, halted_short}
+use Rattle.sort_term.proofs.TreeCode.{tree_code}
 use Rattle.ground_step.specs.Reach.{Path, From, AreExactly, MetFrom, LongFrom, HaltedFrom, EndsInState, runs_of}
 use Rattle.ground_step.specs.declared.run.Run.{Run}
 use Rattle.ground_step.proofs.States.{run_state}
 use Rattle.ground_step.proofs.Exactly.{exactly_same, contains_nil}
 use Rattle.ground_judge.specs.Found.{AreMet}
-use Rattle.ground_judge.proofs.TreeCode.{tree_code}
-use Rattle.ground_judge.proofs.Meets.{always_meets, halted_short}
 
 some_item : {X : Type 0} (P : X → Type 0) (xs : List X) → xs ≢ [] → All P xs → (x : X) × P x
 some_item P [] d a = absurd (d refl)
@@ -39,10 +39,14 @@ module _ {S : Type 0} (sys : System) (tables : Tables) (cuts : List (Cut S)) (s 
   no_long l run is = contains_nil (s, run) (l.complete (s, run) (refl, is))
 
   pub no_halted : AreExactly (LongFrom sys tables cuts s n) [] → AreExactly (HaltedFrom sys tables cuts s n) [] → (run : List (ℕ × Tree)) → ¬ IsHalted (StepsBy sys tables) (InCut sys.cons cuts) s run
-  no_halted l h run is = contains_nil (s, run) (h.complete (s, run) (refl, (is, halted_short (StepsBy sys tables) (InCut sys.cons cuts) s n (no_long l) run is)))
+  no_halted l h run is = contains_nil (s, run) (h.complete (s, run) (refl, (is, halted_short (StepsBy sys tables) (InCut sys.cons cuts) s n run (no_long l) is)))
 
   pub are_met : (met : List Path) → AreExactly (MetFrom sys tables cuts s n) met → AreExactly (LongFrom sys tables cuts s n) [] → AreExactly (HaltedFrom sys tables cuts s n) [] → AreMet (StepsBy sys tables) (InCut sys.cons cuts) n s met
-  are_met met m l h = record { meets = always_meets Steps In s tree_code n met (no_long l) (λ run is short. no_halted l h run is) all; exactly = all }
+  are_met met m l h = record {
+    meets =
+        always_meets Steps In s tree_code n (λ (p : Path). p.1) met (All-weaker (From s (IsMet Steps In s)) (λ p. IsMet Steps In s p.1) (λ p h. h.1) met all.sound) (λ run m. ((s, run), all.complete (s, run) (refl, m), refl)) (no_long l) (λ run is short. no_halted l h run is);
+    exactly = all;
+  }
     where
       Steps : ℕ → Tree → Tree → Type 0
       Steps = StepsBy sys tables

@@ -1,10 +1,5 @@
-pub mod Deciding
-pub mod TreeCode
-pub mod Meets
-pub mod Laws
-pub mod Tests
 pub mod Judged
-pub mod Verdicts
-pub mod Pairs
-pub mod Turns
 pub mod Keeping
+pub mod Pairs
+pub mod Tests
+pub mod Turns

@@ -2,6 +2,7 @@
 use Rattle.std.proofs.Common.{◌≡◌, List, [], ◌∷◌, length, map, refl, sym, ap, ◌∙◌, Some}
 use Rattle.std.proofs.lemmas.List.Elements.{All-nil, All-same}
 use Rattle.sort_term.specs.declared.points.Point.{Point}
+use Rattle.sort_term.specs.declared.problem.Problem.{Problem}
 use Rattle.sort_term.specs.declared.rule.RuleExpr.{RuleExpr}
 use Rattle.sort_term.specs.declared.rule.Var.{Var}
 use Rattle.sort_term.specs.declared.semantics.Con.{Con}
@@ -21,8 +22,8 @@ nothing_fits cons vars (t ∷ v) e f = let q : map (tree_sort cons) (t ∷ v) �
 pub value_sorted : (cons : List Con) (vars : List Var) (a : Sort) (e : RuleExpr) → vars ≡ [] → IsExprOf cons vars a e → IsTreeOf cons a (value [] e)
 value_sorted cons vars a e none h = record { is = expr_keeps cons vars [] (fits_nothing cons vars none) e a h.is }
 
-pub only_pair : (p : Point) (a b : Tree) → IsGroundPoint p → a ≡ value [] p.left → b ≡ value [] p.right → IsOnlyPair p a b
-only_pair p a b g l r = record {
+pub only_pair : (q : Problem) (p : Point) (a b : Tree) → IsGroundPoint p → a ≡ value [] p.left → b ≡ value [] p.right → IsOnlyPair q p a b
+only_pair q p a b g l r = record {
   relates = record {
     holds = record { fits = fits_nothing [] p.vars g.vars; whens = All-same (λ e. IsTrueTree (value [] e)) p.whens [] g.whens (All-nil (λ e. IsTrueTree (value [] e))) };
     left = sym l;

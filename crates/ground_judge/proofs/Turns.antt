@@ -2,7 +2,7 @@
 use Rattle.std.proofs.Common.{arith, ◌≡◌, ℕ, zero, suc, ◌+◌, ◌<◌, ◌≤◌, List, [], ◌∷◌, ◌++◌, length, map, take, get_or, true, false, Option, Some, None, is_some, MatchOption, refl, sym, ap, ◌∙◌, subst, All, Any}
 use Rattle.std.proofs.lemmas.List.{take_more, take_all, map-append}
 use Rattle.std.proofs.lemmas.List.Elements.{All-push}
-use Rattle.sort_term.specs.declared.points.Point.{Point}
+use Rattle.sort_term.specs.declared.problem.Problem.{Problem}
 use Rattle.sort_term.specs.Tree.{Tree}
 use Rattle.sort_term.specs.Relation.{Related}
 use Rattle.ground_step.specs.declared.relation.Fit.{Fit}
@@ -25,14 +25,14 @@ module _ {X Y : Type 0} (P : Y → Type 0) (f : X → Y) (xs : List X) (i : ℕ)
 pub all_through : {X Y : Type 0} (P : Y → Type 0) (f : X → Y) (xs : List X) (i : ℕ) → length xs ≤ i → All P (map f (take i xs)) → All P (map f xs)
 all_through P f xs i l a = subst (λ ys. All P (map f ys)) (take_all i xs l) a
 
-module _ (points : List Point) (a b : Tree) where
-  first_related : (fit : Fit) → IsFirstFit points a b fit → Related points a b
+module _ (q : Problem) (a b : Tree) where
+  first_related : (fit : Fit) → IsFirstFit q a b fit → Related q a b
   first_related fit f = record { place = fit.point; point = f.point; there = f.there; valuation = plain_trees fit.values; relates = f.fits.relates }
 
-  pub some_related : (fit : Option Fit) → MatchOption fit (¬ Related points a b) (IsFirstFit points a b) → is_some fit ≡ true → Related points a b
+  pub some_related : (fit : Option Fit) → MatchOption fit (¬ Related q a b) (IsFirstFit q a b) → is_some fit ≡ true → Related q a b
   some_related (Some fit) f e = first_related fit f
   some_related None f e = absurd (cc)
 
-  pub none_related : (fit : Option Fit) → MatchOption fit (¬ Related points a b) (IsFirstFit points a b) → is_some fit ≡ false → ¬ Related points a b
+  pub none_related : (fit : Option Fit) → MatchOption fit (¬ Related q a b) (IsFirstFit q a b) → is_some fit ≡ false → ¬ Related q a b
   none_related (Some fit) f e = absurd (cc)
   none_related None f e = f

@@ -1,5 +1,5 @@
--- What the runs from the states of a point show, and what is known of the points so far.
-use Rattle.std.specs.Prelude.{◌≡◌, ◌≢◌, ℕ, ◌<◌, List, [], All, Any, Option, Some, None, MatchBool}
+-- What the runs from the states of a point show.
+use Rattle.std.specs.Prelude.{◌≡◌, ◌≢◌, ℕ, List, [], All, Any, MatchBool}
 use Rattle.sort_term.specs.declared.points.Point.{Point}
 use Rattle.sort_term.specs.declared.problem.Problem.{Problem}
 use Rattle.sort_term.specs.declared.term.Left.{Left}
@@ -7,8 +7,9 @@ use Rattle.sort_term.specs.declared.term.Right.{Right}
 use Rattle.sort_term.specs.Tree.{Tree}
 use Rattle.sort_term.specs.Runs.{IsMet}
 use Rattle.sort_term.specs.Relation.{Related, RightFails, LeftFails}
-use Rattle.sort_term.specs.Simulation.{IsPoint, RightMatches, LeftMatches}
-use Rattle.sort_term.specs.Verdict.{FirstTest, AtPoint, NoneBefore}
+use Rattle.sort_term.specs.Meeting.{AlwaysMeets}
+use Rattle.sort_term.specs.Simulation.{IsWellGroundedAt, RightMatches, LeftMatches}
+use Rattle.sort_term.specs.Verdict.{FirstTest}
 use Rattle.ground_step.specs.Reach.{Path, From, AreExactly, end_of}
 use Rattle.ground_step.specs.declared.reach.GroundReach.{GroundReach}
 use Rattle.ground_step.specs.declared.verdict.SideName.TheVariants as side
@@ -17,8 +18,6 @@ use Rattle.ground_judge.specs.declared.kind.FailedTest.TheVariants.{Long, Halted
 use Rattle.ground_judge.specs.declared.finding.Finding.{Finding}
 use Rattle.ground_judge.specs.declared.finding.Finding.TheVariants.{Ungrounded, Grounded}
 use Rattle.ground_judge.specs.Kinds.{test_of}
-use Rattle.ground_judge.specs.Meeting.{AlwaysMeets}
-use Rattle.ground_judge.specs.Grounded.{IsWellGroundedAt}
 
 -- each run from s that makes a step meets the cut within n steps, and these are all met runs from s
 pub record AreMet (Steps : ℕ → Tree → Tree → Type 0) (In : Tree → Type 0) (n : ℕ) (s : Tree) (met : List Path) : Type 0 where
@@ -45,32 +44,21 @@ FirstEscape l r (Halted side.Right) = (l.long ≡ []) × (r.long ≡ []) × (l.h
 FirstEscape l r _ = ⊥
 
 -- each right run ends in a state that is related to the last state of a left run, and some right run doesn't
-abbrev pub AreRightsMatched : List Point → List Path → List Path → Type 0
-AreRightsMatched points lefts rights = All (λ r. Any (λ l. Related points (end_of l) (end_of r)) lefts) rights
+abbrev pub AreRightsMatched : Problem → List Path → List Path → Type 0
+AreRightsMatched q lefts rights = All (λ r. Any (λ l. Related q (end_of l) (end_of r)) lefts) rights
 
-abbrev pub IsRightUnmatched : List Point → List Path → List Path → Type 0
-IsRightUnmatched points lefts rights = Any (λ r. All (λ l. ¬ Related points (end_of l) (end_of r)) lefts) rights
+abbrev pub IsRightUnmatched : Problem → List Path → List Path → Type 0
+IsRightUnmatched q lefts rights = Any (λ r. All (λ l. ¬ Related q (end_of l) (end_of r)) lefts) rights
 
 -- the same with the sides exchanged
-abbrev pub AreLeftsMatched : List Point → List Path → List Path → Type 0
-AreLeftsMatched points lefts rights = All (λ l. Any (λ r. Related points (end_of l) (end_of r)) rights) lefts
+abbrev pub AreLeftsMatched : Problem → List Path → List Path → Type 0
+AreLeftsMatched q lefts rights = All (λ l. Any (λ r. Related q (end_of l) (end_of r)) rights) lefts
 
-abbrev pub IsLeftUnmatched : List Point → List Path → List Path → Type 0
-IsLeftUnmatched points lefts rights = Any (λ l. All (λ r. ¬ Related points (end_of l) (end_of r)) rights) lefts
+abbrev pub IsLeftUnmatched : Problem → List Path → List Path → Type 0
+IsLeftUnmatched q lefts rights = Any (λ l. All (λ r. ¬ Related q (end_of l) (end_of r)) rights) lefts
 
 -- what is found of a point is so: the first test that holds there; or it is grounded, and each side fails or has all partners
 abbrev pub Finds : Problem → ℕ → Point → Finding → Type 0
 Finds q n p (Ungrounded t) = FirstTest q n (test_of t) p
 Finds q n p (Grounded right_fails left_fails) =
     IsWellGroundedAt q n p × MatchBool right_fails (RightFails q p) (RightMatches q p) × MatchBool left_fails (LeftFails q p) (LeftMatches q p)
-
--- of the first k points this is the first that has P; where it is none, all have Q
-abbrev pub IsFirstOf : Problem → (Point → Type 0) → (Point → Type 0) → ℕ → Option ℕ → Type 0
-IsFirstOf q P Q k None = (j : ℕ) (p : Point) → j < k → IsPoint q j p → Q p
-IsFirstOf q P Q k (Some i) = AtPoint q P i × NoneBefore q P i
-
--- what is known of the first k points, which are all grounded: the first where the right fails, and the first where the left fails
-pub record AreJudged (q : Problem) (n k : ℕ) (unmatched refined : Option ℕ) : Type 0 where
-  pub grounded : (j : ℕ) (p : Point) → j < k → IsPoint q j p → IsWellGroundedAt q n p
-  pub rights : IsFirstOf q (RightFails q) (RightMatches q) k unmatched
-  pub lefts : IsFirstOf q (LeftFails q) (LeftMatches q) k refined

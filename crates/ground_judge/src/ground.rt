@@ -35,7 +35,7 @@ pub fn related_pair(
 ) -> Result<(State<Left>, State<Right>), NoMemory>
     requires fits { IsPointOf problem.now.left problem.now.right point.now }
     requires ground { IsGroundPoint point.now }
-    ensures only { IfOk result (λ pair. IsOnlyPair point.now pair.0.term pair.1.term) }
+    ensures only { IfOk result (λ pair. IsOnlyPair problem.now point.now pair.0.term pair.1.term) }
     ensures left { IfOk result (λ pair. IsState problem.now.left pair.0.term) }
     ensures right { IfOk result (λ pair. IsState problem.now.right pair.1.term) }
 {

@@ -19,7 +19,7 @@ pub fn are_lefts_matched(
 ) -> Result<bool, NoMemory>
     requires lefts { All (EndsInState problem.now.left) (runs_of lefts.now) }
     requires rights { All (EndsInState problem.now.right) (runs_of rights.now) }
-    ensures { IfOk result (λ yes. MatchBool yes (AreLeftsMatched problem.now.points.points (runs_of lefts.now) (runs_of rights.now)) (IsLeftUnmatched problem.now.points.points (runs_of lefts.now) (runs_of rights.now))) }
+    ensures { IfOk result (λ yes. MatchBool yes (AreLeftsMatched problem.now (runs_of lefts.now) (runs_of rights.now)) (IsLeftUnmatched problem.now (runs_of lefts.now) (runs_of rights.now))) }
 {
     for left in lefts {
         if !has_right(alloc, problem, left.last(), rights)? {
@@ -38,7 +38,7 @@ fn has_right(
 ) -> Result<bool, NoMemory>
     requires left { IsState problem.now.left left.now.term }
     requires rights { All (EndsInState problem.now.right) (runs_of rights.now) }
-    ensures { IfOk result (λ yes. MatchBool yes (Any (λ r. Related problem.now.points.points left.now.term (end_of r)) (runs_of rights.now)) (All (λ r. ¬ Related problem.now.points.points left.now.term (end_of r)) (runs_of rights.now))) }
+    ensures { IfOk result (λ yes. MatchBool yes (Any (λ r. Related problem.now left.now.term (end_of r)) (runs_of rights.now)) (All (λ r. ¬ Related problem.now left.now.term (end_of r)) (runs_of rights.now))) }
 {
     for right in rights {
         if related(alloc, problem, left, right.last())?.is_some() {

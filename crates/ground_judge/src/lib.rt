@@ -3,13 +3,11 @@
 
 mod finding;
 mod ground;
-mod ground_laws;
 mod kind;
 mod left_partners;
 mod right_partners;
 mod verdict;
 
 pub use ground::are_ground;
-pub use ground_laws::well_grounded_is_grounded;
 pub use kind::{FailedTest, VerdictKind};
 pub use verdict::judge;

@@ -19,7 +19,7 @@ pub fn are_rights_matched(
 ) -> Result<bool, NoMemory>
     requires lefts { All (EndsInState problem.now.left) (runs_of lefts.now) }
     requires rights { All (EndsInState problem.now.right) (runs_of rights.now) }
-    ensures { IfOk result (λ yes. MatchBool yes (AreRightsMatched problem.now.points.points (runs_of lefts.now) (runs_of rights.now)) (IsRightUnmatched problem.now.points.points (runs_of lefts.now) (runs_of rights.now))) }
+    ensures { IfOk result (λ yes. MatchBool yes (AreRightsMatched problem.now (runs_of lefts.now) (runs_of rights.now)) (IsRightUnmatched problem.now (runs_of lefts.now) (runs_of rights.now))) }
 {
     for right in rights {
         if !has_left(alloc, problem, lefts, right.last())? {
@@ -38,7 +38,7 @@ fn has_left(
 ) -> Result<bool, NoMemory>
     requires lefts { All (EndsInState problem.now.left) (runs_of lefts.now) }
     requires right { IsState problem.now.right right.now.term }
-    ensures { IfOk result (λ yes. MatchBool yes (Any (λ l. Related problem.now.points.points (end_of l) right.now.term) (runs_of lefts.now)) (All (λ l. ¬ Related problem.now.points.points (end_of l) right.now.term) (runs_of lefts.now))) }
+    ensures { IfOk result (λ yes. MatchBool yes (Any (λ l. Related problem.now (end_of l) right.now.term) (runs_of lefts.now)) (All (λ l. ¬ Related problem.now (end_of l) right.now.term) (runs_of lefts.now))) }
 {
     for left in lefts {
         if related(alloc, problem, left.last(), right)?.is_some() {

@@ -1,9 +1,8 @@
 // The verdict.
 ghost use Rattle.std.specs.Prelude.{◌≡◌, ◌≤◌, All, IfOk};
-ghost use Rattle.sort_term.specs.Simulation.{IsMatchedSimulation, IsMatchedBisimulation};
+ghost use Rattle.sort_term.specs.Simulation.{IsWellGrounded, IsMatchedSimulation, IsMatchedBisimulation};
 ghost use Rattle.sort_term.specs.Verdict.{IsVerdict};
 ghost use Rattle.ground_judge.specs.Ground.{IsGroundPoint};
-ghost use Rattle.ground_judge.specs.Grounded.{IsWellGrounded};
 ghost use Rattle.ground_judge.specs.Kinds.{kind_of, IsGroundedKind, IsSimulationKind};
 
 use crate::finding::{Finding, examine};

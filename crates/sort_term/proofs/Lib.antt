@@ -12,6 +12,7 @@ pub mod GroundLemmas
 pub mod GroundTerms
 pub mod Having
 pub mod Induction
+pub mod Judging
 pub mod LeafSorts
 pub mod Meets
 pub mod NodeTerming

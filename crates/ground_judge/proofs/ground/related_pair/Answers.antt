@@ -7,7 +7,7 @@ use Rattle.ground_judge.proofs.ground.related_pair.Goals as goal
 pub returns-clause-only : goal.returns-clause-only
 returns-clause-only c =
     let told = rw c.in-Some.is at c.in_ok-pair.ensures in
-    only_pair c.args.point.now c.in-Some.pair.0.term c.in-Some.pair.1.term c.requires.ground told.1 told.2
+    only_pair c.args.problem.now c.args.point.now c.in-Some.pair.0.term c.in-Some.pair.1.term c.requires.ground told.1 told.2
 
 pub returns-clause-left : goal.returns-clause-left
 returns-clause-left c =

@@ -12,12 +12,12 @@ has_right-requires-clause-left c =
 pub returns-then-not-branch : goal.returns-then-not-branch
 returns-then-not-branch c =
     let told = rw (c.if-not-branch.true, c.last.ensures) at c.in_ok-has_right.ensures in
-    any_mapped (λ l. All (λ r. ¬ Related c.args.problem.now.points.points (end_of l) (end_of r)) (runs_of c.args.rights.now)) run_of c.args.lefts.now c.loop-left.left-index c.left-item.result c.loop-left-test.true c.left-item.is told
+    any_mapped (λ l. All (λ r. ¬ Related c.args.problem.now (end_of l) (end_of r)) (runs_of c.args.rights.now)) run_of c.args.lefts.now c.loop-left.left-index c.left-item.result c.loop-left-test.true c.left-item.is told
 
 pub loop-left-preserved : goal.loop-left-preserved
 loop-left-preserved c =
     let told = rw (c.if-not-branch.false, c.last.ensures) at c.in_ok-has_right.ensures in
-    all_more (λ l. Any (λ r. Related c.args.problem.now.points.points (end_of l) (end_of r)) (runs_of c.args.rights.now)) run_of c.args.lefts.now c.loop-left.left-index c.left-item.result c.loop-left-test.true c.left-item.is c.loop-left.invariant told
+    all_more (λ l. Any (λ r. Related c.args.problem.now (end_of l) (end_of r)) (runs_of c.args.rights.now)) run_of c.args.lefts.now c.loop-left.left-index c.left-item.result c.loop-left-test.true c.left-item.is c.loop-left.invariant told
 
 pub returns : goal.returns
-returns c = all_through (λ l. Any (λ r. Related c.args.problem.now.points.points (end_of l) (end_of r)) (runs_of c.args.rights.now)) run_of c.args.lefts.now c.loop-left.left-index (omega arith) c.loop-left.invariant
+returns c = all_through (λ l. Any (λ r. Related c.args.problem.now (end_of l) (end_of r)) (runs_of c.args.rights.now)) run_of c.args.lefts.now c.loop-left.left-index (omega arith) c.loop-left.invariant

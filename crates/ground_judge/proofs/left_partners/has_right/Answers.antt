@@ -12,7 +12,7 @@ related-requires-clause-right c =
 pub returns-then-is_some : goal.returns-then-is_some
 returns-then-is_some c =
     let told = rw c.last.ensures at c.in_ok-related.ensures in
-    any_mapped (λ x. Related c.args.problem.now.points.points c.args.left.now.term (end_of x)) run_of c.args.rights.now c.loop-right.right-index c.right-item.result c.loop-right-test.true c.right-item.is (some_related c.args.problem.now.points.points c.args.left.now.term (end_of (run_of c.right-item.result)) c.in_ok-related.field-0 told (sym c.is_some.ensures ∙ c.if-is_some.true))
+    any_mapped (λ x. Related c.args.problem.now c.args.left.now.term (end_of x)) run_of c.args.rights.now c.loop-right.right-index c.right-item.result c.loop-right-test.true c.right-item.is (some_related c.args.problem.now c.args.left.now.term (end_of (run_of c.right-item.result)) c.in_ok-related.field-0 told (sym c.is_some.ensures ∙ c.if-is_some.true))
 
 pub returns : goal.returns
-returns c = all_through (λ x. ¬ Related c.args.problem.now.points.points c.args.left.now.term (end_of x)) run_of c.args.rights.now c.loop-right.right-index (omega arith) c.loop-right.invariant
+returns c = all_through (λ x. ¬ Related c.args.problem.now c.args.left.now.term (end_of x)) run_of c.args.rights.now c.loop-right.right-index (omega arith) c.loop-right.invariant

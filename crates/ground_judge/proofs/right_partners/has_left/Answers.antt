@@ -12,7 +12,7 @@ related-requires-clause-left c =
 pub returns-then-is_some : goal.returns-then-is_some
 returns-then-is_some c =
     let told = rw c.last.ensures at c.in_ok-related.ensures in
-    any_mapped (λ x. Related c.args.problem.now.points.points (end_of x) c.args.right.now.term) run_of c.args.lefts.now c.loop-left.left-index c.left-item.result c.loop-left-test.true c.left-item.is (some_related c.args.problem.now.points.points (end_of (run_of c.left-item.result)) c.args.right.now.term c.in_ok-related.field-0 told (sym c.is_some.ensures ∙ c.if-is_some.true))
+    any_mapped (λ x. Related c.args.problem.now (end_of x) c.args.right.now.term) run_of c.args.lefts.now c.loop-left.left-index c.left-item.result c.loop-left-test.true c.left-item.is (some_related c.args.problem.now (end_of (run_of c.left-item.result)) c.args.right.now.term c.in_ok-related.field-0 told (sym c.is_some.ensures ∙ c.if-is_some.true))
 
 pub returns : goal.returns
-returns c = all_through (λ x. ¬ Related c.args.problem.now.points.points (end_of x) c.args.right.now.term) run_of c.args.lefts.now c.loop-left.left-index (omega arith) c.loop-left.invariant
+returns c = all_through (λ x. ¬ Related c.args.problem.now (end_of x) c.args.right.now.term) run_of c.args.lefts.now c.loop-left.left-index (omega arith) c.loop-left.invariant

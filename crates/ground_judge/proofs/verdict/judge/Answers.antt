@@ -1,10 +1,10 @@
 use Rattle.std.proofs.Common.{◌≡◌, ◌≤◌, ◌<◌, length, slice_index_or, Option, Some, None, ap, sym, ◌∙◌, subst, ℕ}
 use Rattle.sort_term.proofs.Standing.{get-some}
-use Rattle.sort_term.specs.Simulation.{IsPoint}
+use Rattle.sort_term.specs.Relation.{IsPoint}
 use Rattle.ground_judge.specs.declared.finding.Finding.TheVariants.{Ungrounded, Grounded}
-use Rattle.ground_judge.specs.Found.{AreJudged, Finds}
+use Rattle.ground_judge.specs.Found.{Finds}
 use Rattle.ground_judge.specs.Kinds.{test_of}
-use Rattle.ground_judge.proofs.Verdicts.{judged_more, first_ungrounded, all_grounded, all_rights, all_lefts, is_unmatched, is_refined, is_equivalent}
+use Rattle.sort_term.proofs.Judging.{AreJudged, judged_more, first_ungrounded, all_grounded, all_rights, all_lefts, is_unmatched, is_refined, is_equivalent}
 use Rattle.ground_judge.proofs.verdict.judge.Goals as goal
 
 pub returns-in-Ungrounded-clause-verdict : goal.returns-in-Ungrounded-clause-verdict

@@ -1,4 +1,4 @@
-use Rattle.ground_judge.specs.Found.{AreJudged}
+use Rattle.sort_term.proofs.Judging.{AreJudged}
 use Rattle.ground_judge.proofs.verdict.judge.Given as goal
 
 -- what is known of the points before this one

@@ -1,4 +1,4 @@
--- From what is found of the points, one after the other, to the verdict.
+-- From what is known of the points, one after the other, to the verdict.
 use Rattle.std.proofs.Common.{arith, ◌≡◌, ℕ, ◌+◌, ◌<◌, ◌≤◌, ◌⊎◌, inl, inr, length, Option, Some, None, Bool, true, false, MatchBool, sym, subst, ◌∙◌}
 use Rattle.std.specs.Bool.{then_some}
 use Rattle.std.specs.Option.{option_or}
@@ -6,14 +6,22 @@ use Rattle.std.proofs.lemmas.Bool.{cases_lt}
 use Rattle.std.proofs.lemmas.Option.{slice_get_within, same_Some}
 use Rattle.sort_term.specs.declared.points.Point.{Point}
 use Rattle.sort_term.specs.declared.problem.Problem.{Problem}
-use Rattle.sort_term.specs.Relation.{RightFails, LeftFails}
-use Rattle.sort_term.specs.Simulation.{IsPoint, Test, IsGrounded, RightMatches, LeftMatches, IsMatchedSimulation}
+use Rattle.sort_term.specs.Relation.{IsPoint, RightFails, LeftFails}
+use Rattle.sort_term.specs.Simulation.{Test, IsGrounded, IsWellGroundedAt, IsWellGrounded, RightMatches, LeftMatches, IsMatchedSimulation}
 use Rattle.sort_term.specs.Verdict.{FirstTest, AtPoint, NoneBefore, IsVerdict}
 use Rattle.sort_term.specs.Verdict as kind
-use Rattle.ground_judge.specs.Grounded.{IsWellGroundedAt, IsWellGrounded}
-use Rattle.ground_judge.specs.Found.{IsFirstOf, AreJudged, Finds}
-use Rattle.ground_judge.specs.declared.finding.Finding.TheVariants.{Grounded}
-use Rattle.ground_judge.proofs.Laws.{well_grounded, no_test}
+use Rattle.sort_term.proofs.GroundLemmas.{well_grounded, no_test}
+
+-- of the first k points this is the first that has P; where it is none, all have Q
+abbrev pub IsFirstOf : Problem → (Point → Type 0) → (Point → Type 0) → ℕ → Option ℕ → Type 0
+IsFirstOf q P Q k None = (j : ℕ) (p : Point) → j < k → IsPoint q j p → Q p
+IsFirstOf q P Q k (Some i) = AtPoint q P i × NoneBefore q P i
+
+-- what is known of the first k points, which are all grounded: the first where the right fails, and the first where the left fails
+pub record AreJudged (q : Problem) (n k : ℕ) (unmatched refined : Option ℕ) : Type 0 where
+  pub grounded : (j : ℕ) (p : Point) → j < k → IsPoint q j p → IsWellGroundedAt q n p
+  pub rights : IsFirstOf q (RightFails q) (RightMatches q) k unmatched
+  pub lefts : IsFirstOf q (LeftFails q) (LeftMatches q) k refined
 
 -- the point with a number is one
 same_point : (q : Problem) (j k : ℕ) (p r : Point) → j ≡ k → IsPoint q j r → IsPoint q k p → r ≡ p
@@ -39,7 +47,7 @@ module _ (q : Problem) (n : ℕ) where
   pub judged_none : AreJudged q n 0 None None
   judged_none = record { grounded = λ j p l is. absurd (omega arith); rights = λ j p l is. absurd (omega arith); lefts = λ j p l is. absurd (omega arith) }
 
-  pub judged_more : (k : ℕ) (unmatched refined : Option ℕ) (right left : Bool) (p : Point) → IsPoint q k p → Finds q n p (Grounded right left) → AreJudged q n k unmatched refined → AreJudged q n (k + 1) (option_or unmatched (then_some right k)) (option_or refined (then_some left k))
+  pub judged_more : (k : ℕ) (unmatched refined : Option ℕ) (right left : Bool) (p : Point) → IsPoint q k p → IsWellGroundedAt q n p × MatchBool right (RightFails q p) (RightMatches q p) × MatchBool left (LeftFails q p) (LeftMatches q p) → AreJudged q n k unmatched refined → AreJudged q n (k + 1) (option_or unmatched (then_some right k)) (option_or refined (then_some left k))
   judged_more k unmatched refined right left p there found so_far = record {
     grounded = λ j r l is. go j r l is (cases_lt j k);
     rights = one_more q (RightFails q) (RightMatches q) (never_right q) k unmatched right p there found.1 so_far.rights;
