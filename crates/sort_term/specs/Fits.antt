@@ -66,6 +66,10 @@ pub record AreCuts {S : Type 0} (s : System) (items : List (Cut S)) : Type 0 whe
   pub distinct : AreDistinct (λ c. c.name) items
   pub each : All (IsCut s) items
 
+-- an expression over these variables of the configuration sort of a semantics
+abbrev pub IsConfigExpr : System → List Var → RuleExpr → Type 0
+IsConfigExpr s vars e = IsExprOf s.cons vars (Own s.config) e
+
 -- each variable is a direct argument of a constructor in one of the two terms, so a related pair determines its value
 pub record AreDetermined (vars : List Var) (left right : RuleExpr) : Type 0 where
   pub each : (i : ℕ) → i < length vars → IsTrue (is_argument i left || is_argument i right)
@@ -75,8 +79,8 @@ pub record IsPointOf (left right : System) (p : Point) : Type 0 where
   -- its variables have sorts of data
   pub vars : AreVars is_plain p.vars
   -- its terms are of the configuration sorts of their sides
-  pub left_term : IsExprOf left.cons p.vars (Own left.config) p.left
-  pub right_term : IsExprOf right.cons p.vars (Own right.config) p.right
+  pub left_term : IsConfigExpr left p.vars p.left
+  pub right_term : IsConfigExpr right p.vars p.right
   -- in its conditions no constructor is known
   pub whens : AreWhens [] p.vars p.whens
   pub determined : AreDetermined p.vars p.left p.right

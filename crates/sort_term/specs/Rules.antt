@@ -56,6 +56,11 @@ pub record RepeatsOnlyScalars (vars : List Var) (ps : List Pattern) : Type 0 whe
 pub record AllStandIn (vars : List Var) (ps : List Pattern) : Type 0 where
   pub each : (i : ℕ) → i < length vars → StandsIn i ps
 
+-- the variable i stands in the head or in the pattern of an earlier `let` wherever a demand reads it
+abbrev pub IsBoundWhereRead : ℕ → Pattern → List Demand → Type 0
+IsBoundWhereRead i head demands =
+    (k : ℕ) (d : Demand) → slice_get demands k ≡ Some d → IsTrue (demand_reads i d) → StandsIn i (head ∷ let_patterns (take k demands))
+
 -- each variable that a demand reads stands in the head or in the pattern of an earlier `let`
 pub record ReadsBound (vars : List Var) (head : Pattern) (demands : List Demand) : Type 0 where
   pub each : (k : ℕ) (d : Demand) → slice_get demands k ≡ Some d → (i : ℕ) → i < length vars → IsTrue (demand_reads i d) → StandsIn i (head ∷ let_patterns (take k demands))

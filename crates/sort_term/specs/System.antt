@@ -18,6 +18,10 @@ pub record System : Type 0 where
   pub rules : List Rule
   pub config : SortId
 
+-- the semantics with these parts
+abbrev pub system_of : List (List ℕ) → List Con → List Table → List Rule → SortId → System
+system_of sorts cons tables rules config = record { sorts = sorts; cons = cons; tables = tables; rules = rules; config = config }
+
 -- how a proof tells two semantics apart: by their parts
 abbrev pub system_code : Coded System
 system_code =

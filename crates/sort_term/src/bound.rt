@@ -2,7 +2,7 @@
 ghost use Rattle.std.specs.Prelude.{◌≡◌, ℕ, ◌<◌, ◌∷◌, [], IsTrue, ◌↔◌, min, length, slice_get, take, Some};
 ghost use Rattle.sort_term.specs.declared.rule.Demand.{Demand};
 ghost use Rattle.sort_term.specs.Stands.{times_in, StandsIn, demand_reads, let_patterns};
-ghost use Rattle.sort_term.specs.Rules.{RepeatsOnlyScalars, AllStandIn, ReadsBound};
+ghost use Rattle.sort_term.specs.Rules.{RepeatsOnlyScalars, AllStandIn, IsBoundWhereRead, ReadsBound};
 
 use crate::rule::{Demand, Pattern, Var};
 use crate::signature::is_scalar;
@@ -62,7 +62,7 @@ pub fn all_stand_in(vars: &[Var], pattern: &Pattern, demands: &[Demand]) -> bool
 
 /// Whether a variable stands in the head or in the pattern of an earlier `let` wherever a demand reads it.
 fn is_bound_in_time(i: usize, head: &Pattern, demands: &[Demand]) -> bool
-    ensures { IsTrue result ↔ ((k : ℕ) (d : Demand) → slice_get demands.now k ≡ Some d → IsTrue (demand_reads i d) → StandsIn i (head.now ∷ let_patterns (take k demands.now))) }
+    ensures { IsTrue result ↔ IsBoundWhereRead i head.now demands.now }
 {
     for k in 0..demands.len() {
         if demand_reads(i, &demands[k]) && times_in(i, head, &demands[..k]) == 0 {

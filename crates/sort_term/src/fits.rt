@@ -4,7 +4,7 @@ ghost use Rattle.std.specs.List.{list_any};
 ghost use Rattle.sort_term.specs.declared.term.Sort.TheVariants.{Own};
 ghost use Rattle.sort_term.specs.Sorted.{IsExprOf};
 ghost use Rattle.sort_term.specs.Stands.{is_argument};
-ghost use Rattle.sort_term.specs.Fits.{IsRow, AreRows, HaveRows, IsProgram, AreWhens, IsCut, AreCuts, AreDetermined, IsPointOf, ArePoints};
+ghost use Rattle.sort_term.specs.Fits.{IsRow, AreRows, HaveRows, IsProgram, AreWhens, IsCut, AreCuts, AreDetermined, IsConfigExpr, IsPointOf, ArePoints};
 ghost use Rattle.sort_term.specs.Rules.{RepeatsOnlyScalars, AllStandIn};
 
 use crate::bound::{all_stand_in, repeats_only_scalars};
@@ -144,7 +144,7 @@ fn are_configs(
     left_term: &RuleExpr,
     right_term: &RuleExpr,
 ) -> bool
-    ensures { IsTrue result ↔ (IsExprOf left.now.cons vars.now (Own left.now.config) left_term.now × IsExprOf right.now.cons vars.now (Own right.now.config) right_term.now) }
+    ensures { IsTrue result ↔ (IsConfigExpr left.now vars.now left_term.now × IsConfigExpr right.now vars.now right_term.now) }
 {
     is_config(left, vars, left_term) && is_config(right, vars, right_term)
 }

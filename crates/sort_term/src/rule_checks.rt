@@ -1,6 +1,7 @@
 //! Whether rules and the whole of a semantics pass their checks.
 ghost use Rattle.std.specs.Prelude.{◌≡◌, ℕ, ◌<◌, ◌≤◌, ◌∷◌, [], IsTrue, IsSome, ◌↔◌, min, length, slice_get, Some, count_by, All, take, option_copied};
 ghost use Rattle.sort_term.specs.declared.term.Sort.TheVariants.{Own};
+ghost use Rattle.sort_term.specs.System.{system_of};
 ghost use Rattle.sort_term.specs.Sorted.{IsPatternOf, IsExprOf};
 ghost use Rattle.sort_term.specs.Rules.{row_sort, source_sort, common_sort, demand_sort, is_let, is_when, HasFewDemands, IsSorted, IsBound, IsRule, AreRules, IsSemantics};
 
@@ -176,7 +177,7 @@ pub fn is_semantics(
     rules: &[Rule],
     config: SortId,
 ) -> bool
-    ensures { IsTrue result ↔ IsSemantics (record { sorts = sorts.now; cons = cons.now; tables = tables.now; rules = rules.now; config = config }) }
+    ensures { IsTrue result ↔ IsSemantics (system_of sorts.now cons.now tables.now rules.now config) }
 {
     are_sorts(sorts)
         && are_cons(sorts, cons)

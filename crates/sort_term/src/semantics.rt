@@ -50,20 +50,20 @@ pub struct Semantics<S: Side> {
 }
 
 impl<S: Side> Model for Semantics<S> {
-    ghost use Rattle.sort_term.specs.System.{System, system_code};
+    ghost use Rattle.sort_term.specs.System.{System, system_code, system_of};
     ghost use Rattle.sort_term.specs.Rules.{IsSemantics};
 
     ghost Value = { System };
 
     ghost coded = { system_code };
 
-    ghost view = { λ s. record { sorts = s.sort_names; cons = s.cons; tables = s.tables; rules = s.rules; config = s.config } };
+    ghost view = { λ s. system_of s.sort_names s.cons s.tables s.rules s.config };
 
-    ghost invariant = { λ s. IsSemantics (record { sorts = s.sort_names; cons = s.cons; tables = s.tables; rules = s.rules; config = s.config }) };
+    ghost invariant = { λ s. IsSemantics (system_of s.sort_names s.cons s.tables s.rules s.config) };
 }
 
 impl<S: Side> Semantics<S> {
-    ghost use Rattle.sort_term.specs.System.{System};
+    ghost use Rattle.sort_term.specs.System.{System, system_of};
     ghost use Rattle.sort_term.specs.Rules.{IsSemantics};
 
     /// The semantics with these parts. They pass their checks, which `is_semantics` tells.
@@ -74,8 +74,8 @@ impl<S: Side> Semantics<S> {
         rules: Rules,
         config: SortId,
     ) -> Semantics<S>
-        requires { IsSemantics (record { sorts = sorts; cons = cons; tables = tables; rules = rules; config = config }) }
-        ensures { result ≡ record { sorts = sorts; cons = cons; tables = tables; rules = rules; config = config } }
+        requires { IsSemantics (system_of sorts cons tables rules config) }
+        ensures { result ≡ system_of sorts cons tables rules config }
     {
         Semantics {
             sort_names: sorts,
