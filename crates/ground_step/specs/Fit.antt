@@ -1,5 +1,5 @@
 -- How a point relates a pair of states, and what the pair determines.
-use Rattle.std.specs.Prelude.{◌≡◌, ℕ, ◌<◌, Bool, ◌||◌, IsTrue, List, [], length, map, slice_get, Option, Some}
+use Rattle.std.specs.Prelude.{◌≡◌, ℕ, ◌<◌, Bool, ◌||◌, IsTrue, List, [], length, map, slice_get, Option, Some, MatchOption}
 use Rattle.std.specs.List.{list_any}
 use Rattle.data_value.specs.declared.Value.{Value}
 use Rattle.sort_term.specs.declared.term.Config.{Config}
@@ -12,7 +12,7 @@ use Rattle.sort_term.specs.declared.rule.RuleExpr.{RuleExpr}
 use Rattle.sort_term.specs.Tree.{Tree, Trees, value}
 use Rattle.sort_term.specs.Sorted.{tree_sort, expr_sort}
 use Rattle.sort_term.specs.Stands.{reads, argument_of}
-use Rattle.sort_term.specs.Relation.{Relates}
+use Rattle.sort_term.specs.Relation.{Relates, Related}
 use Rattle.ground_step.specs.declared.relation.Fit.{Fit}
 use Rattle.ground_step.specs.Binds.{Bound, Agrees}
 use Rattle.ground_step.specs.Ready.{IsKnown}
@@ -32,6 +32,10 @@ pub record IsFirstFit (points : List Point) (a b : Tree) (fit : Fit) : Type 0 wh
   pub there : slice_get points fit.point ≡ Some point
   pub fits : IsOnlyFit point a b fit.values
   pub first : (j : ℕ) (p : Point) (v : Trees) → j < fit.point → slice_get points j ≡ Some p → ¬ Relates p v a b
+
+-- the first fit of a and b, or none where they aren't related
+abbrev pub IsFitOf : List Point → Tree → Tree → Option Fit → Type 0
+IsFitOf points a b fit = MatchOption fit (¬ Related points a b) (IsFirstFit points a b)
 
 -- the values by which the point with the number n relates a and b, if there are some
 pub record RelationIs (points : List Point) (n : ℕ) (a b : Tree) (o : Option (List Value)) : Type 0 where
