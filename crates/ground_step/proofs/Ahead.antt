@@ -1,5 +1,5 @@
 -- Runs with one more step: from one run, and from one run more.
-use Rattle.std.proofs.Common.{arith, ◌≡◌, ◌≢◌, ◌↔◌, ℕ, zero, suc, ◌-◌, ◌<◌, List, [], ◌∷◌, ◌++◌, length, map, get_or, slice_get, Some, All, refl, sym, ap, ◌∙◌, subst, ◌⊎◌, inl, inr}
+use Rattle.std.proofs.Common.{arith, ◌≡◌, ◌≢◌, ◌↔◌, ℕ, zero, suc, ◌-◌, List, [], ◌∷◌, ◌++◌, length, get_or, slice_get, Some, All, refl, sym, ap, ◌∙◌, subst, ◌⊎◌, inl, inr}
 use Rattle.std.specs.List.{Contains}
 use Rattle.std.proofs.lemmas.List.Elements.{All-nil, All-cons, All-head, All-tail, All-contains, Contains-push}
 use Rattle.std.proofs.lemmas.Option.{slice_get_within}
@@ -11,8 +11,9 @@ use Rattle.sort_term.specs.Rules.{IsSemantics}
 use Rattle.sort_term.proofs.RunLemmas.{reached_push}
 use Rattle.ground_step.specs.declared.run.RunStep.{RunStep}
 use Rattle.ground_step.specs.Steps.{steps_of, AreSteps}
-use Rattle.ground_step.specs.Reach.{Path, end_of, with_each, EndsIn, EndsInState, Extends, Stops}
-use Rattle.ground_step.proofs.Exactly.{contains_more, contains_nil}
+use Rattle.ground_step.specs.Reach.{StartedRun, NoneTwice, end_of, with_each, EndsIn, EndsInState, OneStepMore, Stops}
+use Rattle.ground_step.proofs.Lists.{last_same, contains_nil, only_one, contains_map, map_contains}
+use Rattle.ground_step.proofs.Exactly.{contains_more, none_twice_map}
 use Rattle.ground_step.proofs.States.{step_state}
 
 last_at : {S : Type 0} (s : Tree) (xs : List (RunStep S)) (x : RunStep S) (n : ℕ) → length xs ≡ suc n → Some x ≡ slice_get xs n → x.state.term ≡ reached s (steps_of xs)
@@ -26,53 +27,19 @@ last_at s (y ∷ z ∷ zs) x (suc n) l h = last_at y.state.term (z ∷ zs) x n (
 pub last_reached : {S : Type 0} (s : Tree) (xs : List (RunStep S)) (x : RunStep S) → Some x ≡ slice_get xs (length xs - 1) → x.state.term ≡ reached s (steps_of xs)
 last_reached s xs x h = last_at s xs x (length xs - 1) (let l = slice_get_within xs (length xs - 1) x (sym h) in omega arith) h
 
--- what a list has, by recursion
-contains_cons : {X : Type 0} (y : X) (xs : List X) (x : X) → Contains xs x → Contains (y ∷ xs) x
-contains_cons y xs x c = let l = c.1 in (suc c.0, omega arith, c.2)
-
-contains_cases : {X : Type 0} (y : X) (xs : List X) (x : X) → Contains (y ∷ xs) x → (x ≡ y) ⊎ Contains xs x
-contains_cases y xs x c = go c.0 c.1 c.2
-  where
-    go : (k : ℕ) → k < length (y ∷ xs) → get_or (y ∷ xs) k x ≡ x → (x ≡ y) ⊎ Contains xs x
-    go zero l e = inl (sym e)
-    go (suc k) l e = inr (k, omega arith, e)
-
-only_one : {X : Type 0} (y x : X) → Contains (y ∷ []) x → x ≡ y
-only_one y x c = go (contains_cases y [] x c)
-  where
-    go : (x ≡ y) ⊎ Contains [] x → x ≡ y
-    go (inl e) = e
-    go (inr n) = absurd (contains_nil x n)
-
-contains_map : {X Y : Type 0} (f : X → Y) (xs : List X) (y : Y) → Contains (map f xs) y → (x : X) × Contains xs x × (y ≡ f x)
-contains_map f [] y c = absurd (contains_nil y c)
-contains_map {X} {Y} f (x ∷ xs) y c = go (contains_cases (f x) (map f xs) y c) (contains_map f xs y)
-  where
-    go : (y ≡ f x) ⊎ Contains (map f xs) y → (Contains (map f xs) y → (z : X) × Contains xs z × (y ≡ f z)) → (z : X) × Contains (x ∷ xs) z × (y ≡ f z)
-    go (inl e) more = (x, (0, omega arith, refl), e)
-    go (inr c) more = let r = more c in (r.0, contains_cons x xs r.0 r.1, r.2)
-
-map_contains : {X Y : Type 0} (f : X → Y) (xs : List X) (x : X) → Contains xs x → Contains (map f xs) (f x)
-map_contains f [] x c = absurd (contains_nil x c)
-map_contains f (y ∷ xs) x c = go (contains_cases y xs x c) (map_contains f xs x)
-  where
-    go : (x ≡ y) ⊎ Contains xs x → (Contains xs x → Contains (map f xs) (f x)) → Contains (map f (y ∷ xs)) (f x)
-    go (inl e) more = (0, omega arith, ap f (sym e))
-    go (inr n) more = contains_cons (f y) (map f xs) (f x) (more n)
-
-module _ (Steps : ℕ → Tree → Tree → Type 0) (Q : Tree → Type 0) (runs : List Path) (p q : Path) where
+module _ (Steps : ℕ → Tree → Tree → Type 0) (Q : Tree → Type 0) (runs : List StartedRun) (p q : StartedRun) where
   -- from one run more
-  pub extends_more : Extends Steps (runs ++ p ∷ []) Q q ↔ (Extends Steps runs Q q ⊎ Extends Steps (p ∷ []) Q q)
+  pub extends_more : OneStepMore Steps (runs ++ p ∷ []) Q q ↔ (OneStepMore Steps runs Q q ⊎ OneStepMore Steps (p ∷ []) Q q)
   extends_more = (to, from)
     where
-      to : Extends Steps (runs ++ p ∷ []) Q q → Extends Steps runs Q q ⊎ Extends Steps (p ∷ []) Q q
+      to : OneStepMore Steps (runs ++ p ∷ []) Q q → OneStepMore Steps runs Q q ⊎ OneStepMore Steps (p ∷ []) Q q
       to x = go ((contains_more runs p x.before).0 x.there)
         where
-          go : Contains runs x.before ⊎ (x.before ≡ p) → Extends Steps runs Q q ⊎ Extends Steps (p ∷ []) Q q
+          go : Contains runs x.before ⊎ (x.before ≡ p) → OneStepMore Steps runs Q q ⊎ OneStepMore Steps (p ∷ []) Q q
           go (inl c) = inl (record { before = x.before; step = x.step; there = c; steps = x.steps; has = x.has; is = x.is })
           go (inr e) = inr (record { before = x.before; step = x.step; there = subst (Contains (p ∷ [])) (sym e) (Contains-push [] p); steps = x.steps; has = x.has; is = x.is })
 
-      from : Extends Steps runs Q q ⊎ Extends Steps (p ∷ []) Q q → Extends Steps (runs ++ p ∷ []) Q q
+      from : OneStepMore Steps runs Q q ⊎ OneStepMore Steps (p ∷ []) Q q → OneStepMore Steps (runs ++ p ∷ []) Q q
       from (inl x) = record { before = x.before; step = x.step; there = (contains_more runs p x.before).1 (inl x.there); steps = x.steps; has = x.has; is = x.is }
       from (inr x) = record { before = x.before; step = x.step; there = (contains_more runs p x.before).1 (inr (only_one p x.before x.there)); steps = x.steps; has = x.has; is = x.is }
 
@@ -90,15 +57,15 @@ module _ (Steps : ℕ → Tree → Tree → Type 0) (Q : Tree → Type 0) (runs 
       from (inl x) = record { there = (contains_more runs p q).1 (inl x.there); stuck = x.stuck }
       from (inr x) = record { there = (contains_more runs p q).1 (inr (only_one p q x.there)); stuck = x.stuck }
 
-module _ (sys : System) (tables : Tables) (p : Path) (steps : List (ℕ × Tree)) (all : AreSteps sys tables (end_of p) steps) where
+module _ (sys : System) (tables : Tables) (p : StartedRun) (steps : List (ℕ × Tree)) (all : AreSteps sys tables (end_of p) steps) where
   abbrev By : ℕ → Tree → Tree → Type 0
   By = StepsBy sys tables
 
   -- the runs with one more step are the run with each of its steps behind it
-  pub with_each_extends : (Q : Tree → Type 0) (q : Path) → EndsIn (with_each p steps) Q q ↔ Extends By (p ∷ []) Q q
+  pub with_each_extends : (Q : Tree → Type 0) (q : StartedRun) → EndsIn (with_each p steps) Q q ↔ OneStepMore By (p ∷ []) Q q
   with_each_extends Q q = (to, from)
     where
-      to : EndsIn (with_each p steps) Q q → Extends By (p ∷ []) Q q
+      to : EndsIn (with_each p steps) Q q → OneStepMore By (p ∷ []) Q q
       to h =
           let m = contains_map (λ (x : ℕ × Tree). (p.0, p.1 ++ x ∷ [])) steps q h.0 in
           let x = m.0 in
@@ -112,32 +79,50 @@ module _ (sys : System) (tables : Tables) (p : Path) (steps : List (ℕ × Tree)
             is = m.2;
           }
 
-      from : Extends By (p ∷ []) Q q → EndsIn (with_each p steps) Q q
+      from : OneStepMore By (p ∷ []) Q q → EndsIn (with_each p steps) Q q
       from x =
           let e : x.before ≡ p = only_one p x.before x.there in
           let step : By x.step.0 (end_of p) x.step.1 = subst (λ b. By x.step.0 (end_of b) x.step.1) e x.steps in
-          let is : q ≡ (p.0, p.1 ++ x.step ∷ []) = x.is ∙ ap (λ (b : Path). (b.0, b.1 ++ x.step ∷ [])) e in (
+          let is : q ≡ (p.0, p.1 ++ x.step ∷ []) = x.is ∙ ap (λ (b : StartedRun). (b.0, b.1 ++ x.step ∷ [])) e in (
             subst (Contains (with_each p steps)) (sym is) (map_contains (λ (y : ℕ × Tree). (p.0, p.1 ++ y ∷ [])) steps x.step (all.complete x.step.0 x.step.1 step)),
             subst Q (sym (ap end_of is ∙ reached_push p.0 p.1 x.step)) x.has,
           )
+
+  -- a step has one place among them, so no run stands twice
+  pub with_each_once : NoneTwice (with_each p steps)
+  with_each_once = none_twice_map (λ (x : ℕ × Tree). (p.0, p.1 ++ x ∷ [])) steps (λ i j d l k same.
+      let rises = all.rising i j d l k in
+      let e : p.1 ++ get_or steps i d ∷ [] ≡ p.1 ++ get_or steps j d ∷ [] = ap (λ (q : StartedRun). q.1) same in
+      let n : (get_or steps i d).0 ≡ (get_or steps j d).0 = ap (λ (x : ℕ × Tree). x.0) (last_same p.1 p.1 (get_or steps i d) (get_or steps j d) e).1 in
+      absurd (omega arith))
+
+  -- nor is one of them a run with one more step than another run
+  pub with_each_apart : (xs : List StartedRun) → ¬ Contains xs p → (Q R : Tree → Type 0) (q : StartedRun) → OneStepMore By xs Q q → ¬ EndsIn (with_each p steps) R q
+  with_each_apart xs new Q R q x h =
+      let m = contains_map (λ (y : ℕ × Tree). (p.0, p.1 ++ y ∷ [])) steps q h.0 in
+      let same : ◌≡◌ {A = StartedRun} (x.before.0, x.before.1 ++ x.step ∷ []) (p.0, p.1 ++ m.0 ∷ []) = sym x.is ∙ m.2 in
+      let start : x.before.0 ≡ p.0 = ap (λ (r : StartedRun). r.0) same in
+      let steps : x.before.1 ≡ p.1 = (last_same x.before.1 p.1 x.step m.0 (ap (λ (r : StartedRun). r.1) same)).0 in
+      let is : x.before ≡ p = ap (λ t. (t, x.before.1)) start ∙ ap (λ l. (p.0, l)) steps in
+      new (subst (Contains xs) is x.there)
 
   -- no steps: the run stops
   stuck_is : steps ≡ [] → IsStuck By (end_of p)
   stuck_is e n t h = contains_nil (n, t) (subst (λ xs. Contains xs (n, t)) e (all.complete n t h))
 
-  pub stops_is : steps ≡ [] → (q : Path) → Stops By (p ∷ []) q ↔ (q ≡ p)
+  pub stops_is : steps ≡ [] → (q : StartedRun) → Stops By (p ∷ []) q ↔ (q ≡ p)
   stops_is e q = (
     λ x. only_one p q x.there,
     λ h. record { there = subst (Contains (p ∷ [])) (sym h) (Contains-push [] p); stuck = subst (λ b. IsStuck By (end_of b)) (sym h) (stuck_is e) },
   )
 
-  pub extends_none : steps ≡ [] → (Q : Tree → Type 0) (q : Path) → ¬ Extends By (p ∷ []) Q q
+  pub extends_none : steps ≡ [] → (Q : Tree → Type 0) (q : StartedRun) → ¬ OneStepMore By (p ∷ []) Q q
   extends_none e Q q x =
       let b : x.before ≡ p = only_one p x.before x.there in
       stuck_is e x.step.0 x.step.1 (subst (λ y. By x.step.0 (end_of y) x.step.1) b x.steps)
 
   -- a step: it doesn't
-  pub stops_none : steps ≢ [] → (q : Path) → ¬ Stops By (p ∷ []) q
+  pub stops_none : steps ≢ [] → (q : StartedRun) → ¬ Stops By (p ∷ []) q
   stops_none moves q x = go steps refl
     where
       go : (xs : List (ℕ × Tree)) → steps ≡ xs → ⊥

@@ -28,6 +28,7 @@ use Rattle.ground_step.specs.Binds.{Bound, Agrees, Narrows}
 use Rattle.ground_step.specs.Ready.{IsKnown}
 use Rattle.ground_step.specs.Fit.{ReadsWithin, is_part, is_part_of, Determines, DeterminesAll}
 use Rattle.ground_step.proofs.Bound.{agrees_at, fill, fill_agrees, fill_at, parts_of}
+use Rattle.ground_step.proofs.Lists.{last_same}
 use Rattle.sort_term.proofs.Parts.{con_parts}
 use Rattle.sort_term.proofs.PartSorts.{op_parts_of}
 
@@ -35,7 +36,7 @@ or_left : (a b : Bool) → IsTrue a → IsTrue (a || b)
 or_left true b h = refl
 or_left false b h = absurd (cc)
 
-or_right : (a b : Bool) → IsTrue b → IsTrue (a || b)
+pub or_right : (a b : Bool) → IsTrue b → IsTrue (a || b)
 or_right true b h = refl
 or_right false b h = h
 
@@ -192,20 +193,6 @@ all_none bs = record { keeps = refl; sound = λ v a y. a; complete = λ v a e. (
 
 pub all_apart : (bs : Bound) (es : List RuleExpr) (ts : Trees) → ((v : Trees) → ¬ (map (value v) es ≡ ts)) → DeterminesAll bs bs false es ts
 all_apart bs es ts h = record { keeps = refl; sound = λ v a y. a; complete = λ v a e. absurd (h v e); known = λ y. absurd (cc) }
-
--- the last items of lists
-last_same : {A : Type 0} (xs ys : List A) (x y : A) → xs ++ x ∷ [] ≡ ys ++ y ∷ [] → (xs ≡ ys) × (x ≡ y)
-last_same [] [] x y h = (refl, cc)
-last_same [] (b ∷ []) x y h = absurd (cc)
-last_same [] (b ∷ c ∷ ys) x y h = absurd (cc)
-last_same (a ∷ []) [] x y h = absurd (cc)
-last_same (a ∷ c ∷ xs) [] x y h = absurd (cc)
-last_same (a ∷ xs) (b ∷ ys) x y h =
-    let e : a ≡ b = cc in
-    let f : xs ++ x ∷ [] ≡ ys ++ y ∷ [] = cc in
-    let r = last_same xs ys x y f in
-    let g : xs ≡ ys = r.0 in
-    (cc, r.1)
 
 record LastSorts {A B : Type 0} (f : A → Option Sort) (g : B → Option Sort) (es : List A) (ts : List B) (e : A) (t : B) : Type 0 where
   fronts : List Sort

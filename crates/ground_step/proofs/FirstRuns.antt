@@ -9,7 +9,7 @@ use Rattle.sort_term.specs.Rules.{IsSemantics}
 use Rattle.sort_term.specs.Step.{Tables, StepsBy, IsState}
 use Rattle.sort_term.specs.Runs.{reached, IsRun, IsStuck, StepsFirst}
 use Rattle.sort_term.proofs.RunLemmas.{run_push, reached_push}
-use Rattle.ground_step.specs.Reach.{Path, FirstRunFrom, end_of}
+use Rattle.ground_step.specs.Reach.{StartedRun, FirstRunFrom, end_of}
 use Rattle.ground_step.specs.Steps.{StepIs}
 use Rattle.ground_step.proofs.States.{step_state}
 
@@ -31,7 +31,7 @@ module _ (sys : System) (tables : Tables) (s : Tree) where
   none_steps n all none m u step = let l = slice_get_within sys.rules m step.rule step.there in none m u (omega arith) step
 
 -- a run by first rules from s so far, with n steps
-pub record IsFirstSoFar (sys : System) (tables : Tables) (s : Tree) (n : ℕ) (p : Path) : Type 0 where
+pub record IsFirstSoFar (sys : System) (tables : Tables) (s : Tree) (n : ℕ) (p : StartedRun) : Type 0 where
   pub start : p.0 ≡ s
   pub runs : IsRun (StepsFirst (StepsBy sys tables)) s p.1
   pub long : length p.1 ≡ n
@@ -41,7 +41,7 @@ module _ (sys : System) (tables : Tables) (s : Tree) where
   pub first_begun : IsState sys s → IsFirstSoFar sys tables s 0 (s, [])
   first_begun h = record { start = refl; runs = tt; long = refl; state = h }
 
-  pub first_pushed : IsSemantics sys → (n : ℕ) (p : Path) (m : ℕ) (t : Tree) → IsFirstSoFar sys tables s n p → StepsFirst (StepsBy sys tables) m (end_of p) t → IsFirstSoFar sys tables s (n + 1) (p.0, p.1 ++ (m, t) ∷ [])
+  pub first_pushed : IsSemantics sys → (n : ℕ) (p : StartedRun) (m : ℕ) (t : Tree) → IsFirstSoFar sys tables s n p → StepsFirst (StepsBy sys tables) m (end_of p) t → IsFirstSoFar sys tables s (n + 1) (p.0, p.1 ++ (m, t) ∷ [])
   first_pushed lawful n p m t f step =
       let long = f.long in
       let more = length_push p.1 (m, t) in
@@ -53,7 +53,7 @@ module _ (sys : System) (tables : Tables) (s : Tree) where
       }
 
   -- it ends after n steps, or where it is stuck
-  pub first_ended : (n k : ℕ) (p : Path) → k ≤ n → IsFirstSoFar sys tables s k p → (k ≡ n) ⊎ IsStuck (StepsBy sys tables) (end_of p) → FirstRunFrom sys tables s n p
+  pub first_ended : (n k : ℕ) (p : StartedRun) → k ≤ n → IsFirstSoFar sys tables s k p → (k ≡ n) ⊎ IsStuck (StepsBy sys tables) (end_of p) → FirstRunFrom sys tables s n p
   first_ended n k p l f ends = (f.start, record { runs = f.runs; short = (let long = f.long in omega arith); ends = go ends })
     where
       go : (k ≡ n) ⊎ IsStuck (StepsBy sys tables) (end_of p) → (length p.1 ≡ n) ⊎ IsStuck (StepsBy sys tables) (reached s p.1)

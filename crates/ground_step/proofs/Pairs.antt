@@ -43,12 +43,8 @@ use Rattle.sort_term.proofs.PartSorts.{op_parts_of}
 use Rattle.unify.specs.Binds.{AreBinds}
 use Rattle.unify.proofs.Evaluated.{bound_seen}
 use Rattle.sort_term.proofs.Declared.{declares, fits_each}
-use Rattle.ground_step.proofs.Determined.{stays_known}
+use Rattle.ground_step.proofs.Determined.{or_right, stays_known}
 use Rattle.ground_step.proofs.Evaluated.{nodes, tree_there}
-
-or_right : (a b : Bool) → IsTrue b → IsTrue (a || b)
-or_right true b h = refl
-or_right false b h = h
 
 either_true : (a b : Bool) → IsTrue (a || b) → IsTrue a ⊎ IsTrue b
 either_true true b h = inl refl

@@ -7,7 +7,7 @@ use Rattle.sort_term.specs.Rules.{IsSemantics}
 use Rattle.sort_term.specs.Step.{Tables, StepsBy, IsState}
 use Rattle.sort_term.specs.Runs.{reached, IsRun}
 use Rattle.sort_term.proofs.StepSorts.{step_states}
-use Rattle.ground_step.specs.Reach.{Path, EndsInState, LongFrom}
+use Rattle.ground_step.specs.Reach.{StartedRun, EndsInState, LongFrom}
 
 module _ (sys : System) (tables : Tables) (lawful : IsSemantics sys) where
   pub step_state : (n : ℕ) (s t : Tree) → StepsBy sys tables n s t → IsState sys t
@@ -18,7 +18,7 @@ module _ (sys : System) (tables : Tables) (lawful : IsSemantics sys) where
   run_state s (x ∷ run) h r = run_state x.1 run (step_state x.0 s x.1 r.0) r.1
 
 -- the runs of a level end in states
-pub long_states : {S : Type 0} (sys : System) (tables : Tables) (cuts : List (Cut S)) (s : Tree) (k : ℕ) (runs : List Path) → IsSemantics sys → IsState sys s → All (LongFrom sys tables cuts s k) runs → All (EndsInState sys) runs
+pub long_states : {S : Type 0} (sys : System) (tables : Tables) (cuts : List (Cut S)) (s : Tree) (k : ℕ) (runs : List StartedRun) → IsSemantics sys → IsState sys s → All (LongFrom sys tables cuts s k) runs → All (EndsInState sys) runs
 long_states sys tables cuts s k runs lawful state a j d l =
     let p = get_or runs j d in
     let h = a j d l in

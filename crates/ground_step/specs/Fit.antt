@@ -1,5 +1,5 @@
 -- How a point relates a pair of states, and what the pair determines.
-use Rattle.std.specs.Prelude.{◌≡◌, ℕ, ◌<◌, Bool, ◌||◌, IsTrue, List, [], length, map, Option, Some}
+use Rattle.std.specs.Prelude.{◌≡◌, ℕ, ◌<◌, Bool, ◌||◌, IsTrue, List, [], length, map, Option, Some, MatchOption}
 use Rattle.std.specs.List.{list_any}
 use Rattle.data_value.specs.declared.Value.{Value}
 use Rattle.sort_term.specs.declared.term.Config.{Config}
@@ -13,7 +13,7 @@ use Rattle.sort_term.specs.declared.rule.RuleExpr.{RuleExpr}
 use Rattle.sort_term.specs.Tree.{Tree, Trees, value}
 use Rattle.sort_term.specs.Sorted.{tree_sort, expr_sort}
 use Rattle.sort_term.specs.Stands.{reads, argument_of}
-use Rattle.sort_term.specs.Relation.{IsPoint, Relates}
+use Rattle.sort_term.specs.Relation.{IsPoint, Relates, Related}
 use Rattle.ground_step.specs.declared.relation.Fit.{Fit}
 use Rattle.ground_step.specs.Binds.{Bound, Agrees}
 use Rattle.ground_step.specs.Ready.{IsKnown}
@@ -33,6 +33,10 @@ pub record IsFirstFit (q : Problem) (a b : Tree) (fit : Fit) : Type 0 where
   pub there : IsPoint q fit.point point
   pub fits : IsOnlyFit q point a b fit.values
   pub first : (j : ℕ) (p : Point) (v : Trees) → j < fit.point → IsPoint q j p → ¬ Relates q p v a b
+
+-- the first fit of a and b, or none where they aren't related
+abbrev pub IsFitOf : Problem → Tree → Tree → Option Fit → Type 0
+IsFitOf q a b fit = MatchOption fit (¬ Related q a b) (IsFirstFit q a b)
 
 -- the values by which the point with the number n relates a and b, if there are some
 pub record RelationIs (q : Problem) (n : ℕ) (a b : Tree) (o : Option (List Value)) : Type 0 where

@@ -1,9 +1,8 @@
 // The run by the first rule that applies.
-ghost use Rattle.std.specs.Prelude.{◌≡◌, ◌<◌, ◌↔◌, IfOk, IsTrue, MatchOption, Option};
+ghost use Rattle.std.specs.Prelude.{◌↔◌, IfOk, IsTrue};
 ghost use Rattle.sort_term.specs.Fits.{IsProgram};
-ghost use Rattle.sort_term.specs.Runs.{IsStuck, StepsFirst};
-ghost use Rattle.sort_term.specs.Step.{IsState, StepsBy};
-ghost use Rattle.ground_step.specs.Reach.{FirstRunFrom, end_of, run_of};
+ghost use Rattle.sort_term.specs.Step.{IsState};
+ghost use Rattle.ground_step.specs.Reach.{FirstRunFrom, IsFirstStep, IsStuckIn, end_of, run_of};
 
 use crate::run::{Run, RunStep};
 use crate::steps::step;
@@ -32,7 +31,7 @@ pub fn first_run<S: Side>(
     requires program { IsProgram semantics.now program.now }
     requires state { IsState semantics.now start.now.term }
     ensures run { IfOk result (λ ended. FirstRunFrom semantics.now program.now start.now.term steps (run_of ended.run)) }
-    ensures stopped { IfOk result (λ ended. IsTrue ended.stopped ↔ IsStuck (StepsBy semantics.now program.now) (end_of (run_of ended.run))) }
+    ensures stopped { IfOk result (λ ended. IsTrue ended.stopped ↔ IsStuckIn semantics.now program.now (end_of (run_of ended.run))) }
 {
     // Reading its rules shows that the semantics has passed its checks.
     let _rules = semantics.rules();
@@ -57,7 +56,7 @@ fn first_step<S: Side>(
 ) -> Result<Option<RunStep<S>>, NoMemory>
     requires program { IsProgram semantics.now program.now }
     requires state { IsState semantics.now state.now.term }
-    ensures { IfOk result (λ next. MatchOption next (IsStuck (StepsBy semantics.now program.now) state.now.term) (λ x. StepsFirst (StepsBy semantics.now program.now) x.rule.0 state.now.term x.state.term)) }
+    ensures { IfOk result (IsFirstStep semantics.now program.now state.now.term) }
 {
     for place in 0..semantics.rules().len() {
         let rule = RuleId(place);

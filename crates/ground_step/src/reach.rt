@@ -1,11 +1,10 @@
 // Runs up to the cut.
 ghost use Rattle.std.specs.Prelude.{◌≡◌, ◌≢◌, ◌≤◌, [], All, IfOk};
-ghost use Rattle.sort_term.specs.Step.{IsState, StepsBy};
-ghost use Rattle.sort_term.specs.Cuts.{InCut};
+ghost use Rattle.sort_term.specs.Step.{IsState};
 ghost use Rattle.sort_term.specs.Rules.{IsSemantics};
 ghost use Rattle.sort_term.specs.Fits.{AreCuts, IsProgram};
 ghost use Rattle.ground_step.specs.Steps.{steps_of};
-ghost use Rattle.ground_step.specs.Reach.{Adds, AreExactly, EndsIn, EndsInState, Extends, HaltedFrom, LongFrom, MetFrom, Stops, StopsMoved, run_of, runs_of, with_each};
+ghost use Rattle.ground_step.specs.Reach.{AddsRuns, AreRuns, EndsInCut, EndsInState, EndsOutside, HaltedFrom, LongFrom, MeetsNext, MetFrom, NoneTwice, StaysOutside, StopsIn, StopsMovedIn, run_of, runs_of, with_each};
 
 use crate::run::{Run, RunSteps, Runs};
 use crate::steps::{in_cut, successors};
@@ -39,9 +38,9 @@ pub fn cut_successors<S: Side>(
     requires cuts { AreCuts semantics.now cuts.now }
     requires state { IsState semantics.now state.now.term }
     requires steps { 1 ≤ steps }
-    ensures met { IfOk result (λ reach. AreExactly (MetFrom semantics.now program.now cuts.now state.now.term steps) (runs_of reach.met)) }
-    ensures long { IfOk result (λ reach. AreExactly (LongFrom semantics.now program.now cuts.now state.now.term steps) (runs_of reach.long)) }
-    ensures halted { IfOk result (λ reach. AreExactly (HaltedFrom semantics.now program.now cuts.now state.now.term steps) (runs_of reach.halted)) }
+    ensures met { IfOk result (λ reach. AreRuns (MetFrom semantics.now program.now cuts.now state.now.term steps) reach.met) }
+    ensures long { IfOk result (λ reach. AreRuns (LongFrom semantics.now program.now cuts.now state.now.term steps) reach.long) }
+    ensures halted { IfOk result (λ reach. AreRuns (HaltedFrom semantics.now program.now cuts.now state.now.term steps) reach.halted) }
 {
     // Reading its rules shows that the semantics has passed its checks.
     let _rules = semantics.rules();
@@ -78,7 +77,8 @@ fn note_halted<S: Side>(
 ) -> Result<(), NoMemory>
     requires program { IsProgram semantics.now program.now }
     requires states { All (EndsInState semantics.now) (runs_of runs.now) }
-    ensures { IfOk result (λ _. Adds (Stops (StepsBy semantics.now program.now) (runs_of runs.now)) (runs_of halted.old) (runs_of halted.new)) }
+    requires once { NoneTwice (runs_of runs.now) }
+    ensures { IfOk result (λ _. AddsRuns (StopsIn semantics.now program.now runs.now) halted.old halted.new) }
 {
     for run in runs {
         if successors(alloc, semantics, program, run.last())?.is_empty() {
@@ -102,9 +102,10 @@ fn next_level<S: Side>(
     requires program { IsProgram semantics.now program.now }
     requires cuts { AreCuts semantics.now cuts.now }
     requires states { All (EndsInState semantics.now) (runs_of outside.items) }
-    ensures outside { IfOk result (λ longer. AreExactly (Extends (StepsBy semantics.now program.now) (runs_of outside.items) (λ t. ¬ InCut semantics.now.cons cuts.now t)) (runs_of longer.items)) }
-    ensures met { IfOk result (λ _. Adds (Extends (StepsBy semantics.now program.now) (runs_of outside.items) (InCut semantics.now.cons cuts.now)) (runs_of met.old) (runs_of met.new)) }
-    ensures halted { IfOk result (λ _. Adds (StopsMoved (StepsBy semantics.now program.now) (runs_of outside.items)) (runs_of halted.old) (runs_of halted.new)) }
+    requires once { NoneTwice (runs_of outside.items) }
+    ensures outside { IfOk result (λ longer. AreRuns (StaysOutside semantics.now program.now cuts.now outside.items) longer.items) }
+    ensures met { IfOk result (λ _. AddsRuns (MeetsNext semantics.now program.now cuts.now outside.items) met.old met.new) }
+    ensures halted { IfOk result (λ _. AddsRuns (StopsMovedIn semantics.now program.now outside.items) halted.old halted.new) }
 {
     let mut longer = Vec::new(alloc);
     for run in outside {
@@ -121,7 +122,7 @@ fn next_level<S: Side>(
 
 // Notes a run as halted if it has a step.
 fn note_moved<S: Side>(run: Run<S>, halted: &mut Runs<S>) -> Result<(), NoMemory>
-    ensures { IfOk result (λ _. Adds (λ p. (p ≡ run_of run) × (p.1 ≢ [])) (runs_of halted.old) (runs_of halted.new)) }
+    ensures { IfOk result (λ _. AddsRuns (λ p. (p ≡ run_of run) × (p.1 ≢ [])) halted.old halted.new) }
 {
     if !run.steps.is_empty() {
         halted.push(run)?;
@@ -164,8 +165,9 @@ fn part<S: Side>(
 ) -> Result<(), NoMemory>
     requires cuts { AreCuts semantics.now cuts.now }
     requires states { All (EndsInState semantics.now) (runs_of runs.items) }
-    ensures outside { IfOk result (λ _. Adds (EndsIn (runs_of runs.items) (λ t. ¬ InCut semantics.now.cons cuts.now t)) (runs_of outside.old.items) (runs_of outside.new.items)) }
-    ensures met { IfOk result (λ _. Adds (EndsIn (runs_of runs.items) (InCut semantics.now.cons cuts.now)) (runs_of met.old) (runs_of met.new)) }
+    requires once { NoneTwice (runs_of runs.items) }
+    ensures outside { IfOk result (λ _. AddsRuns (EndsOutside semantics.now.cons cuts.now runs.items) outside.old.items outside.new.items) }
+    ensures met { IfOk result (λ _. AddsRuns (EndsInCut semantics.now.cons cuts.now runs.items) met.old met.new) }
 {
     for run in runs {
         if in_cut(alloc, semantics, cuts, run.last())? {

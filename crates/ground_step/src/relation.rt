@@ -3,10 +3,9 @@ ghost use Rattle.std.specs.Prelude.{◌≡◌, ◌≢◌, ◌<◌, [], All, IfOk
 ghost use Rattle.sort_term.specs.Tree.{plain_of, value};
 ghost use Rattle.sort_term.specs.Step.{IsState};
 ghost use Rattle.sort_term.specs.Fits.{IsPointOf};
-ghost use Rattle.sort_term.specs.Relation.{Related};
 ghost use Rattle.ground_step.specs.Binds.{Narrows};
 ghost use Rattle.ground_step.specs.Ready.{IsReady};
-ghost use Rattle.ground_step.specs.Fit.{AreOf, Determines, DeterminesAll, IsFirstFit, IsValueBound, ReadsWithin, RelationIs, some_plain};
+ghost use Rattle.ground_step.specs.Fit.{AreOf, Determines, DeterminesAll, IsFitOf, IsValueBound, ReadsWithin, RelationIs, some_plain};
 
 use crate::binds::bind;
 use crate::conditions::{all_hold, expression_tree};
@@ -37,7 +36,7 @@ pub fn related(
 ) -> Result<Option<Fit>, NoMemory>
     requires left { IsState problem.now.left left.now.term }
     requires right { IsState problem.now.right right.now.term }
-    ensures { IfOk result (λ fit. MatchOption fit (¬ Related problem.now left.now.term right.now.term) (IsFirstFit problem.now left.now.term right.now.term)) }
+    ensures { IfOk result (IsFitOf problem.now left.now.term right.now.term) }
 {
     for place in 0..problem.points.points.len() {
         if let Some(values) = relates(alloc, problem, place, left.term(), right.term())? {

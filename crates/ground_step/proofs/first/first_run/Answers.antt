@@ -2,7 +2,7 @@ use Rattle.std.proofs.Common.{arith, ◌≡◌, ◌+◌, ◌∷◌, [], ◌++◌
 use Rattle.std.proofs.lemmas.List.{map-append}
 use Rattle.sort_term.specs.Runs.{IsStuck, StepsFirst}
 use Rattle.sort_term.specs.Step.{StepsBy}
-use Rattle.ground_step.specs.Reach.{Path, end_of, run_of}
+use Rattle.ground_step.specs.Reach.{StartedRun, end_of, run_of}
 use Rattle.ground_step.specs.Steps.{step_of, steps_of}
 use Rattle.ground_step.proofs.FirstRuns.{IsFirstSoFar, first_pushed, first_ended, stopped_is}
 use Rattle.ground_step.proofs.first.first_run.Goals as goal
@@ -26,7 +26,7 @@ loop-step-preserved g c =
     let sys = c.args.semantics.now in
     let tables = c.args.program.now in
     let s = c.args.start.now.term in
-    let p : Path = run_of c.loop-step.run in
+    let p : StartedRun = run_of c.loop-step.run in
     let x = c.in-Some.step in
     let told : StepsFirst (StepsBy sys tables) x.rule.0 c.last.result.now.term x.state.term = rw c.in-Some.is at c.in_ok-step.ensures in
     let step : StepsFirst (StepsBy sys tables) x.rule.0 (end_of p) x.state.term = subst (λ t. StepsFirst (StepsBy sys tables) x.rule.0 t x.state.term) c.last.ensures told in

@@ -3,9 +3,10 @@ use Rattle.std.specs.Vec.Iter.{into_iter_items}
 use Rattle.std.proofs.lemmas.List.{map-append}
 use Rattle.std.proofs.lemmas.List.Elements.{All-head, All-tail}
 use Rattle.sort_term.specs.Cuts.{InCut}
-use Rattle.ground_step.specs.Reach.{end_of, run_of, runs_of, EndsInState, EndsIn, Adds}
-use Rattle.ground_step.proofs.Exactly.{adds_none, contains_nil}
-use Rattle.ground_step.proofs.Growing.{turn_more, turn_end, ends_keep, ends_add}
+use Rattle.ground_step.specs.Reach.{NoneTwice, end_of, run_of, runs_of, EndsInState, EndsIn, Adds}
+use Rattle.ground_step.proofs.Lists.{contains_nil}
+use Rattle.ground_step.proofs.Exactly.{adds_none}
+use Rattle.ground_step.proofs.Growing.{turn_more, turn_end, new_in_turn, ends_keep, ends_add}
 use Rattle.ground_step.proofs.reach.part.Goals as goal
 
 pub loop-run-init : goal.loop-run-init
@@ -29,13 +30,14 @@ loop-run-preserved-in-Continue-branch-2 g c =
     let run = c.in-Some.run' in
     let sys = c.args.semantics.now in
     let told : IsTrue c.in_ok-in_cut.field-0 ↔ InCut sys.cons c.args.cuts.now (end_of (run_of run)) = rw c.last.ensures at c.in_ok-in_cut.ensures in
+    let new = new_in_turn _ at.yielded (into_iter_items at.run-iterator) (into_iter_items c.next.new.self) run _ at.invariant.turn c.in-Some.ensures.steps.0 (subst (λ l. NoneTwice (runs_of l)) (sym c.into_iter-run-iterator.ensures.into_iter_gives.0) c.requires.once) in
     let longer = map-append run_of at.yielded (run ∷ []) in
     let states = subst (λ l. All (EndsInState sys) (runs_of l)) c.in-Some.ensures.steps.0 at.invariant.states in
     record {
       turn = turn_more _ at.yielded (into_iter_items at.run-iterator) (into_iter_items c.next.new.self) run _ _ at.invariant.turn c.in-Some.ensures.steps.0 c.in-Some.ensures.steps.1;
       states = All-tail (EndsInState sys) (run_of run) (runs_of (into_iter_items c.next.new.self)) states;
       outside = subst (λ l. Adds (EndsIn l (λ t. ¬ InCut sys.cons c.args.cuts.now t)) (runs_of c.args.outside.now.items) (runs_of at.outside.items)) (sym longer) (ends_keep (runs_of at.yielded) (run_of run) (λ t. ¬ InCut sys.cons c.args.cuts.now t) _ _ (λ n. n (told.0 c.if-branch.true)) at.invariant.outside);
-      met = subst (λ l. Adds (EndsIn l (InCut sys.cons c.args.cuts.now)) (runs_of c.args.met.now) (runs_of c.push.new.self)) (sym longer) (subst (Adds (EndsIn (runs_of at.yielded ++ run_of run ∷ []) (InCut sys.cons c.args.cuts.now)) (runs_of c.args.met.now)) (sym (ap (λ l. runs_of l) c.in_ok-push.ensures.ok ∙ map-append run_of at.met (run ∷ []))) (ends_add (runs_of at.yielded) (run_of run) (InCut sys.cons c.args.cuts.now) _ _ (told.0 c.if-branch.true) at.invariant.met));
+      met = subst (λ l. Adds (EndsIn l (InCut sys.cons c.args.cuts.now)) (runs_of c.args.met.now) (runs_of c.push.new.self)) (sym longer) (subst (Adds (EndsIn (runs_of at.yielded ++ run_of run ∷ []) (InCut sys.cons c.args.cuts.now)) (runs_of c.args.met.now)) (sym (ap (λ l. runs_of l) c.in_ok-push.ensures.ok ∙ map-append run_of at.met (run ∷ []))) (ends_add (runs_of at.yielded) (run_of run) (InCut sys.cons c.args.cuts.now) _ _ new (told.0 c.if-branch.true) at.invariant.met));
     }
 
 pub loop-run-preserved : goal.loop-run-preserved
@@ -44,13 +46,14 @@ loop-run-preserved g c =
     let run = c.in-Some.run' in
     let sys = c.args.semantics.now in
     let told : IsTrue c.in_ok-in_cut.field-0 ↔ InCut sys.cons c.args.cuts.now (end_of (run_of run)) = rw c.last.ensures at c.in_ok-in_cut.ensures in
+    let new = new_in_turn _ at.yielded (into_iter_items at.run-iterator) (into_iter_items c.next.new.self) run _ at.invariant.turn c.in-Some.ensures.steps.0 (subst (λ l. NoneTwice (runs_of l)) (sym c.into_iter-run-iterator.ensures.into_iter_gives.0) c.requires.once) in
     let out : ¬ InCut sys.cons c.args.cuts.now (end_of (run_of run)) = (λ n. let y : c.in_ok-in_cut.field-0 ≡ true = told.1 n in let q : true ≡ false = sym y ∙ c.if-branch.false in cc) in
     let longer = map-append run_of at.yielded (run ∷ []) in
     let states = subst (λ l. All (EndsInState sys) (runs_of l)) c.in-Some.ensures.steps.0 at.invariant.states in
     record {
       turn = turn_more _ at.yielded (into_iter_items at.run-iterator) (into_iter_items c.next.new.self) run _ _ at.invariant.turn c.in-Some.ensures.steps.0 c.in-Some.ensures.steps.1;
       states = All-tail (EndsInState sys) (run_of run) (runs_of (into_iter_items c.next.new.self)) states;
-      outside = subst (λ l. Adds (EndsIn l (λ t. ¬ InCut sys.cons c.args.cuts.now t)) (runs_of c.args.outside.now.items) (runs_of c.push-else-branch.new.self.items)) (sym longer) (subst (Adds (EndsIn (runs_of at.yielded ++ run_of run ∷ []) (λ t. ¬ InCut sys.cons c.args.cuts.now t)) (runs_of c.args.outside.now.items)) (sym (ap (λ l. runs_of l) c.in_ok-push-2.ensures.items ∙ map-append run_of at.outside.items (run ∷ []))) (ends_add (runs_of at.yielded) (run_of run) (λ t. ¬ InCut sys.cons c.args.cuts.now t) _ _ out at.invariant.outside));
+      outside = subst (λ l. Adds (EndsIn l (λ t. ¬ InCut sys.cons c.args.cuts.now t)) (runs_of c.args.outside.now.items) (runs_of c.push-else-branch.new.self.items)) (sym longer) (subst (Adds (EndsIn (runs_of at.yielded ++ run_of run ∷ []) (λ t. ¬ InCut sys.cons c.args.cuts.now t)) (runs_of c.args.outside.now.items)) (sym (ap (λ l. runs_of l) c.in_ok-push-2.ensures.items ∙ map-append run_of at.outside.items (run ∷ []))) (ends_add (runs_of at.yielded) (run_of run) (λ t. ¬ InCut sys.cons c.args.cuts.now t) _ _ new out at.invariant.outside));
       met = subst (λ l. Adds (EndsIn l (InCut sys.cons c.args.cuts.now)) (runs_of c.args.met.now) (runs_of at.met)) (sym longer) (ends_keep (runs_of at.yielded) (run_of run) (InCut sys.cons c.args.cuts.now) _ _ out at.invariant.met);
     }
 
