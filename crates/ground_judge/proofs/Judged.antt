@@ -12,7 +12,7 @@ use Rattle.sort_term.specs.Relation.{Side, left, right, of_side, Related, StepsO
 use Rattle.sort_term.specs.Meeting.{AlwaysMeets}
 use Rattle.sort_term.specs.Simulation.{IsWellGroundedAt, RightMatches, LeftMatches}
 use Rattle.sort_term.specs.Verdict.{FirstTest}
-use Rattle.ground_step.specs.Reach.{Path, From, AreExactly, MetFrom, LongFrom, HaltedFrom, end_of, runs_of}
+use Rattle.ground_step.specs.Reach.{StartedRun, From, AreExactly, MetFrom, LongFrom, HaltedFrom, end_of, runs_of}
 use Rattle.ground_step.specs.declared.reach.GroundReach.{GroundReach}
 use Rattle.ground_step.specs.declared.verdict.SideName.TheVariants as side
 use Rattle.ground_judge.specs.declared.kind.FailedTest.{FailedTest}
@@ -24,15 +24,15 @@ use Rattle.ground_judge.proofs.Keeping.{some_long, some_halted, no_long, no_halt
 use Rattle.ground_judge.proofs.Tests.{some_pair, each_pair, only_state, first_long_left, first_long_right, first_halted_left, first_halted_right}
 
 -- where these are all met runs from s, the cut successors of s are their last states
-module _ (q : Problem) (side : Side) (s : Tree) (runs : List Path) (exactly : AreExactly (From s (IsMet (StepsOf q side) (InCutOf q side) s)) runs) where
+module _ (q : Problem) (side : Side) (s : Tree) (runs : List StartedRun) (exactly : AreExactly (From s (IsMet (StepsOf q side) (InCutOf q side) s)) runs) where
   ends : All (λ r. SucceedsOf q side s (end_of r)) runs
   ends = All-weaker (From s (IsMet (StepsOf q side) (InCutOf q side) s)) (λ r. SucceedsOf q side s (end_of r)) (λ r h. (r.1, h.1, ap (λ x. reached x r.1) (sym h.0))) runs exactly.sound
 
-  ended : (t : Tree) → SucceedsOf q side s t → (r : Path) × Contains runs r × (end_of r ≡ t)
+  ended : (t : Tree) → SucceedsOf q side s t → (r : StartedRun) × Contains runs r × (end_of r ≡ t)
   ended t h = ((s, h.0), exactly.complete (s, h.0) (refl, h.1), h.2)
 
 module _ (q : Problem) (n : ℕ) (p : Point) (a b : Tree) (only : IsOnlyPair q p a b) where
-  module _ (lefts rights : List Path) (kl : Keeps (StepsOf q left) (InCutOf q left) n a lefts) (kr : Keeps (StepsOf q right) (InCutOf q right) n b rights) where
+  module _ (lefts rights : List StartedRun) (kl : Keeps (StepsOf q left) (InCutOf q left) n a lefts) (kr : Keeps (StepsOf q right) (InCutOf q right) n b rights) where
     pub well : IsWellGroundedAt q n p
     well = record {
       held = ([], only.relates.holds);
@@ -55,7 +55,7 @@ module _ (q : Problem) (n : ℕ) (p : Point) (a b : Tree) (only : IsOnlyPair q p
     rights_match m =
         each_pair q n p a b only (λ c d. (b' : Tree) → SucceedsOf q right d b' → (a' : Tree) × SucceedsOf q left c a' × Related q a' b') (λ b' h. partner b' (ended q right b rights kr.1.exactly b' h))
       where
-        partner : (b' : Tree) → (r : Path) × Contains rights r × (end_of r ≡ b') → (a' : Tree) × SucceedsOf q left a a' × Related q a' b'
+        partner : (b' : Tree) → (r : StartedRun) × Contains rights r × (end_of r ≡ b') → (a' : Tree) × SucceedsOf q left a a' × Related q a' b'
         partner b' r =
             let l = All-contains (λ x. Any (λ y. Related q (end_of y) (end_of x)) lefts) rights r.0 m r.1 in (
               end_of l.1,
@@ -67,7 +67,7 @@ module _ (q : Problem) (n : ℕ) (p : Point) (a b : Tree) (only : IsOnlyPair q p
     lefts_match m =
         each_pair q n p a b only (λ c d. (a' : Tree) → SucceedsOf q left c a' → (b' : Tree) × SucceedsOf q right d b' × Related q a' b') (λ a' h. partner a' (ended q left a lefts kl.1.exactly a' h))
       where
-        partner : (a' : Tree) → (l : Path) × Contains lefts l × (end_of l ≡ a') → (b' : Tree) × SucceedsOf q right b b' × Related q a' b'
+        partner : (a' : Tree) → (l : StartedRun) × Contains lefts l × (end_of l ≡ a') → (b' : Tree) × SucceedsOf q right b b' × Related q a' b'
         partner a' l =
             let r = All-contains (λ x. Any (λ y. Related q (end_of x) (end_of y)) rights) lefts l.0 m l.1 in (
               end_of r.1,

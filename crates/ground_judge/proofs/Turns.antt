@@ -1,12 +1,12 @@
 -- Runs of a list, one at a time, and what `related` tells of a pair.
-use Rattle.std.proofs.Common.{arith, ◌≡◌, ℕ, zero, suc, ◌+◌, ◌<◌, ◌≤◌, List, [], ◌∷◌, ◌++◌, length, map, take, get_or, true, false, Option, Some, None, is_some, MatchOption, refl, sym, ap, ◌∙◌, subst, All, Any}
+use Rattle.std.proofs.Common.{arith, ◌≡◌, ℕ, zero, suc, ◌+◌, ◌<◌, ◌≤◌, List, [], ◌∷◌, ◌++◌, length, map, take, get_or, true, false, Option, Some, None, is_some, refl, sym, ap, ◌∙◌, subst, All, Any}
 use Rattle.std.proofs.lemmas.List.{take_more, take_all, map-append}
 use Rattle.std.proofs.lemmas.List.Elements.{All-push}
 use Rattle.sort_term.specs.declared.problem.Problem.{Problem}
 use Rattle.sort_term.specs.Tree.{Tree}
 use Rattle.sort_term.specs.Relation.{Related}
 use Rattle.ground_step.specs.declared.relation.Fit.{Fit}
-use Rattle.ground_step.specs.Fit.{IsFirstFit, plain_trees}
+use Rattle.ground_step.specs.Fit.{IsFirstFit, IsFitOf, plain_trees}
 
 -- an image with the property
 pub any_mapped : {X Y : Type 0} (P : Y → Type 0) (f : X → Y) (xs : List X) (i : ℕ) (x : X) → i < length xs → x ≡ get_or xs i x → P (f x) → Any P (map f xs)
@@ -29,10 +29,10 @@ module _ (q : Problem) (a b : Tree) where
   first_related : (fit : Fit) → IsFirstFit q a b fit → Related q a b
   first_related fit f = record { place = fit.point; point = f.point; there = f.there; valuation = plain_trees fit.values; relates = f.fits.relates }
 
-  pub some_related : (fit : Option Fit) → MatchOption fit (¬ Related q a b) (IsFirstFit q a b) → is_some fit ≡ true → Related q a b
+  pub some_related : (fit : Option Fit) → IsFitOf q a b fit → is_some fit ≡ true → Related q a b
   some_related (Some fit) f e = first_related fit f
   some_related None f e = absurd (cc)
 
-  pub none_related : (fit : Option Fit) → MatchOption fit (¬ Related q a b) (IsFirstFit q a b) → is_some fit ≡ false → ¬ Related q a b
+  pub none_related : (fit : Option Fit) → IsFitOf q a b fit → is_some fit ≡ false → ¬ Related q a b
   none_related (Some fit) f e = absurd (cc)
   none_related None f e = f

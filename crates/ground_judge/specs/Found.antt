@@ -1,5 +1,5 @@
 -- What the runs from the states of a point show.
-use Rattle.std.specs.Prelude.{◌≡◌, ◌≢◌, ℕ, List, [], All, Any, MatchBool}
+use Rattle.std.specs.Prelude.{◌≡◌, ◌≢◌, ℕ, Bool, List, [], All, Any, MatchBool}
 use Rattle.sort_term.specs.declared.points.Point.{Point}
 use Rattle.sort_term.specs.declared.problem.Problem.{Problem}
 use Rattle.sort_term.specs.declared.term.Left.{Left}
@@ -10,7 +10,7 @@ use Rattle.sort_term.specs.Relation.{Related, RightFails, LeftFails}
 use Rattle.sort_term.specs.Meeting.{AlwaysMeets}
 use Rattle.sort_term.specs.Simulation.{IsWellGroundedAt, RightMatches, LeftMatches}
 use Rattle.sort_term.specs.Verdict.{FirstTest}
-use Rattle.ground_step.specs.Reach.{Path, From, AreExactly, end_of}
+use Rattle.ground_step.specs.Reach.{StartedRun, From, AreExactly, end_of}
 use Rattle.ground_step.specs.declared.reach.GroundReach.{GroundReach}
 use Rattle.ground_step.specs.declared.verdict.SideName.TheVariants as side
 use Rattle.ground_judge.specs.declared.kind.FailedTest.{FailedTest}
@@ -20,12 +20,12 @@ use Rattle.ground_judge.specs.declared.finding.Finding.TheVariants.{Ungrounded, 
 use Rattle.ground_judge.specs.Kinds.{test_of}
 
 -- each run from s that makes a step meets the cut within n steps, and these are all met runs from s
-pub record AreMet (Steps : ℕ → Tree → Tree → Type 0) (In : Tree → Type 0) (n : ℕ) (s : Tree) (met : List Path) : Type 0 where
+pub record AreMet (Steps : ℕ → Tree → Tree → Type 0) (In : Tree → Type 0) (n : ℕ) (s : Tree) (met : List StartedRun) : Type 0 where
   pub meets : AlwaysMeets Steps In n s
   pub exactly : AreExactly (From s (IsMet Steps In s)) met
 
 -- moreover s is in the cut
-abbrev pub Keeps : (ℕ → Tree → Tree → Type 0) → (Tree → Type 0) → ℕ → Tree → List Path → Type 0
+abbrev pub Keeps : (ℕ → Tree → Tree → Type 0) → (Tree → Type 0) → ℕ → Tree → List StartedRun → Type 0
 Keeps Steps In n s met = In s × AreMet Steps In n s met
 
 -- no run is long or halted
@@ -44,18 +44,29 @@ FirstEscape l r (Halted side.Right) = (l.long ≡ []) × (r.long ≡ []) × (l.h
 FirstEscape l r _ = ⊥
 
 -- each right run ends in a state that is related to the last state of a left run, and some right run doesn't
-abbrev pub AreRightsMatched : Problem → List Path → List Path → Type 0
+abbrev pub AreRightsMatched : Problem → List StartedRun → List StartedRun → Type 0
 AreRightsMatched q lefts rights = All (λ r. Any (λ l. Related q (end_of l) (end_of r)) lefts) rights
 
-abbrev pub IsRightUnmatched : Problem → List Path → List Path → Type 0
+abbrev pub IsRightUnmatched : Problem → List StartedRun → List StartedRun → Type 0
 IsRightUnmatched q lefts rights = Any (λ r. All (λ l. ¬ Related q (end_of l) (end_of r)) lefts) rights
 
 -- the same with the sides exchanged
-abbrev pub AreLeftsMatched : Problem → List Path → List Path → Type 0
+abbrev pub AreLeftsMatched : Problem → List StartedRun → List StartedRun → Type 0
 AreLeftsMatched q lefts rights = All (λ l. Any (λ r. Related q (end_of l) (end_of r)) rights) lefts
 
-abbrev pub IsLeftUnmatched : Problem → List Path → List Path → Type 0
+abbrev pub IsLeftUnmatched : Problem → List StartedRun → List StartedRun → Type 0
 IsLeftUnmatched q lefts rights = Any (λ l. All (λ r. ¬ Related q (end_of l) (end_of r)) rights) lefts
+
+-- whether each right run is so matched, or some right run isn't; the same of the left runs
+abbrev pub TellsRights : Problem → List StartedRun → List StartedRun → Bool → Type 0
+TellsRights q lefts rights told = MatchBool told (AreRightsMatched q lefts rights) (IsRightUnmatched q lefts rights)
+
+abbrev pub TellsLefts : Problem → List StartedRun → List StartedRun → Bool → Type 0
+TellsLefts q lefts rights told = MatchBool told (AreLeftsMatched q lefts rights) (IsLeftUnmatched q lefts rights)
+
+-- whether one of these runs ends in a state with P, or none does
+abbrev pub TellsEnd : (Tree → Type 0) → List StartedRun → Bool → Type 0
+TellsEnd P runs told = MatchBool told (Any (λ r. P (end_of r)) runs) (All (λ r. ¬ P (end_of r)) runs)
 
 -- what is found of a point is so: the first test that holds there; or it is grounded, and each side fails or has all partners
 abbrev pub Finds : Problem → ℕ → Point → Finding → Type 0

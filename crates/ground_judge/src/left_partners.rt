@@ -1,9 +1,9 @@
 // Left cut successors and their partners on the right.
-ghost use Rattle.std.specs.Prelude.{All, Any, IfOk, MatchBool};
+ghost use Rattle.std.specs.Prelude.{All, IfOk};
 ghost use Rattle.sort_term.specs.Step.{IsState};
 ghost use Rattle.sort_term.specs.Relation.{Related};
-ghost use Rattle.ground_step.specs.Reach.{EndsInState, end_of, runs_of};
-ghost use Rattle.ground_judge.specs.Found.{AreLeftsMatched, IsLeftUnmatched};
+ghost use Rattle.ground_step.specs.Reach.{EndsInState, runs_of};
+ghost use Rattle.ground_judge.specs.Found.{TellsEnd, TellsLefts};
 
 use ground_step::{Run, related};
 use no_memory::NoMemory;
@@ -19,7 +19,7 @@ pub fn are_lefts_matched(
 ) -> Result<bool, NoMemory>
     requires lefts { All (EndsInState problem.now.left) (runs_of lefts.now) }
     requires rights { All (EndsInState problem.now.right) (runs_of rights.now) }
-    ensures { IfOk result (λ yes. MatchBool yes (AreLeftsMatched problem.now (runs_of lefts.now) (runs_of rights.now)) (IsLeftUnmatched problem.now (runs_of lefts.now) (runs_of rights.now))) }
+    ensures { IfOk result (TellsLefts problem.now (runs_of lefts.now) (runs_of rights.now)) }
 {
     for left in lefts {
         if !has_right(alloc, problem, left.last(), rights)? {
@@ -38,7 +38,7 @@ fn has_right(
 ) -> Result<bool, NoMemory>
     requires left { IsState problem.now.left left.now.term }
     requires rights { All (EndsInState problem.now.right) (runs_of rights.now) }
-    ensures { IfOk result (λ yes. MatchBool yes (Any (λ r. Related problem.now left.now.term (end_of r)) (runs_of rights.now)) (All (λ r. ¬ Related problem.now left.now.term (end_of r)) (runs_of rights.now))) }
+    ensures { IfOk result (TellsEnd (Related problem.now left.now.term) (runs_of rights.now)) }
 {
     for right in rights {
         if related(alloc, problem, left, right.last())?.is_some() {

@@ -1,9 +1,9 @@
 // Right cut successors and their partners on the left.
-ghost use Rattle.std.specs.Prelude.{All, Any, IfOk, MatchBool};
+ghost use Rattle.std.specs.Prelude.{All, IfOk};
 ghost use Rattle.sort_term.specs.Step.{IsState};
 ghost use Rattle.sort_term.specs.Relation.{Related};
-ghost use Rattle.ground_step.specs.Reach.{EndsInState, end_of, runs_of};
-ghost use Rattle.ground_judge.specs.Found.{AreRightsMatched, IsRightUnmatched};
+ghost use Rattle.ground_step.specs.Reach.{EndsInState, runs_of};
+ghost use Rattle.ground_judge.specs.Found.{TellsEnd, TellsRights};
 
 use ground_step::{Run, related};
 use no_memory::NoMemory;
@@ -19,7 +19,7 @@ pub fn are_rights_matched(
 ) -> Result<bool, NoMemory>
     requires lefts { All (EndsInState problem.now.left) (runs_of lefts.now) }
     requires rights { All (EndsInState problem.now.right) (runs_of rights.now) }
-    ensures { IfOk result (λ yes. MatchBool yes (AreRightsMatched problem.now (runs_of lefts.now) (runs_of rights.now)) (IsRightUnmatched problem.now (runs_of lefts.now) (runs_of rights.now))) }
+    ensures { IfOk result (TellsRights problem.now (runs_of lefts.now) (runs_of rights.now)) }
 {
     for right in rights {
         if !has_left(alloc, problem, lefts, right.last())? {
@@ -38,7 +38,7 @@ fn has_left(
 ) -> Result<bool, NoMemory>
     requires lefts { All (EndsInState problem.now.left) (runs_of lefts.now) }
     requires right { IsState problem.now.right right.now.term }
-    ensures { IfOk result (λ yes. MatchBool yes (Any (λ l. Related problem.now (end_of l) right.now.term) (runs_of lefts.now)) (All (λ l. ¬ Related problem.now (end_of l) right.now.term) (runs_of lefts.now))) }
+    ensures { IfOk result (TellsEnd (λ a. Related problem.now a right.now.term) (runs_of lefts.now)) }
 {
     for left in lefts {
         if related(alloc, problem, left.last(), right)?.is_some() {

@@ -1,13 +1,13 @@
 use Rattle.std.proofs.Common.{arith, All, Any}
 use Rattle.sort_term.specs.Relation.{Related}
 use Rattle.ground_step.specs.Reach.{EndsInState, end_of, run_of, runs_of}
-use Rattle.ground_step.proofs.Lists.{all_mapped}
+use Rattle.ground_step.proofs.Lists.{image_here}
 use Rattle.ground_judge.proofs.Turns.{any_mapped, all_more, all_through}
 use Rattle.ground_judge.proofs.left_partners.are_lefts_matched.Goals as goal
 
 pub has_right-requires-clause-left : goal.has_right-requires-clause-left
 has_right-requires-clause-left c =
-    rw c.last.ensures (all_mapped (EndsInState c.args.problem.now.left) run_of c.args.lefts.now c.loop-left.left-index c.left-item.result c.requires.lefts c.loop-left-test.true c.left-item.is)
+    rw c.last.ensures (image_here (EndsInState c.args.problem.now.left) run_of c.args.lefts.now c.loop-left.left-index c.left-item.result c.requires.lefts c.loop-left-test.true c.left-item.is)
 
 pub returns-then-not-branch : goal.returns-then-not-branch
 returns-then-not-branch c =

@@ -1,13 +1,13 @@
 use Rattle.std.proofs.Common.{arith, sym, ◌∙◌}
 use Rattle.sort_term.specs.Relation.{Related}
 use Rattle.ground_step.specs.Reach.{EndsInState, end_of, run_of}
-use Rattle.ground_step.proofs.Lists.{all_mapped}
+use Rattle.ground_step.proofs.Lists.{image_here}
 use Rattle.ground_judge.proofs.Turns.{any_mapped, all_through, some_related}
 use Rattle.ground_judge.proofs.left_partners.has_right.Goals as goal
 
 pub related-requires-clause-right : goal.related-requires-clause-right
 related-requires-clause-right c =
-    rw c.last.ensures (all_mapped (EndsInState c.args.problem.now.right) run_of c.args.rights.now c.loop-right.right-index c.right-item.result c.requires.rights c.loop-right-test.true c.right-item.is)
+    rw c.last.ensures (image_here (EndsInState c.args.problem.now.right) run_of c.args.rights.now c.loop-right.right-index c.right-item.result c.requires.rights c.loop-right-test.true c.right-item.is)
 
 pub returns-then-is_some : goal.returns-then-is_some
 returns-then-is_some c =

@@ -1,13 +1,13 @@
 use Rattle.std.proofs.Common.{arith, All, Any}
 use Rattle.sort_term.specs.Relation.{Related}
 use Rattle.ground_step.specs.Reach.{EndsInState, end_of, run_of, runs_of}
-use Rattle.ground_step.proofs.Lists.{all_mapped}
+use Rattle.ground_step.proofs.Lists.{image_here}
 use Rattle.ground_judge.proofs.Turns.{any_mapped, all_more, all_through}
 use Rattle.ground_judge.proofs.right_partners.are_rights_matched.Goals as goal
 
 pub has_left-requires-clause-right : goal.has_left-requires-clause-right
 has_left-requires-clause-right c =
-    rw c.last.ensures (all_mapped (EndsInState c.args.problem.now.right) run_of c.args.rights.now c.loop-right.right-index c.right-item.result c.requires.rights c.loop-right-test.true c.right-item.is)
+    rw c.last.ensures (image_here (EndsInState c.args.problem.now.right) run_of c.args.rights.now c.loop-right.right-index c.right-item.result c.requires.rights c.loop-right-test.true c.right-item.is)
 
 pub returns-then-not-branch : goal.returns-then-not-branch
 returns-then-not-branch c =

@@ -1,13 +1,13 @@
 use Rattle.std.proofs.Common.{arith, sym, ◌∙◌}
 use Rattle.sort_term.specs.Relation.{Related}
 use Rattle.ground_step.specs.Reach.{EndsInState, end_of, run_of}
-use Rattle.ground_step.proofs.Lists.{all_mapped}
+use Rattle.ground_step.proofs.Lists.{image_here}
 use Rattle.ground_judge.proofs.Turns.{any_mapped, all_through, some_related}
 use Rattle.ground_judge.proofs.right_partners.has_left.Goals as goal
 
 pub related-requires-clause-left : goal.related-requires-clause-left
 related-requires-clause-left c =
-    rw c.last.ensures (all_mapped (EndsInState c.args.problem.now.left) run_of c.args.lefts.now c.loop-left.left-index c.left-item.result c.requires.lefts c.loop-left-test.true c.left-item.is)
+    rw c.last.ensures (image_here (EndsInState c.args.problem.now.left) run_of c.args.lefts.now c.loop-left.left-index c.left-item.result c.requires.lefts c.loop-left-test.true c.left-item.is)
 
 pub returns-then-is_some : goal.returns-then-is_some
 returns-then-is_some c =
