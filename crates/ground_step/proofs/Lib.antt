@@ -13,3 +13,4 @@ pub mod Growing
 pub mod Determined
 pub mod Pairs
 pub mod FirstRuns
+pub mod Witnessed

@@ -4,3 +4,4 @@ pub mod Reach
 pub mod Ready
 pub mod Shows
 pub mod Steps
+pub mod VerdictLaws

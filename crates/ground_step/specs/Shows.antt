@@ -51,10 +51,8 @@ ShowsKind q n (refines k) side a b run t =
     IsMet (StepsOf q left) (InCutOf q left) a run × ((b' : Tree) → SucceedsOf q right b b' → ¬ Related q t b')
 ShowsKind q n equivalent side a b run t = ⊥
 
--- a failure shows the verdict of a problem for n steps: a ground run from a related pair of the verdict's point, on the verdict's side
-pub record Shows (q : Problem) (n : ℕ) (kind : Kind) (f : Failure) : Type 0 where
-  -- the kind is the verdict, and the failure is at its point and side
-  pub is : IsVerdict q n kind
+-- what a failure witnesses of a kind for n steps: a ground run from a related pair of the kind's point, on the kind's side
+pub record Witness (q : Problem) (n : ℕ) (kind : Kind) (f : Failure) : Type 0 where
   pub at : IsAt kind f.point (side_of f.side)
   -- its states are a related pair of that point under its values
   pub point : Point
@@ -68,6 +66,21 @@ pub record Shows (q : Problem) (n : ℕ) (kind : Kind) (f : Failure) : Type 0 wh
   pub last : reached (of_side (side_of f.side) f.left.term f.right.term) run ≡ reached_tree f.reached
   -- what the run shows
   pub shown : ShowsKind q n kind (side_of f.side) f.left.term f.right.term run (reached_tree f.reached)
+
+-- a failure shows the verdict of a problem for n steps: the kind is the verdict, and the failure witnesses it
+pub record Shows (q : Problem) (n : ℕ) (kind : Kind) (f : Failure) : Type 0 where
+  pub is : IsVerdict q n kind
+  pub witness : Witness q n kind f
+
+-- the kind of a verdict, with its point and its side
+abbrev pub kind_of_verdict : Verdict → Kind
+kind_of_verdict verdict.Equivalent = equivalent
+kind_of_verdict (verdict.Refines f) = refines f.point
+kind_of_verdict (verdict.Unmatched f) = unmatched f.point
+kind_of_verdict (verdict.Void k) = ungrounded k void
+kind_of_verdict (verdict.Outside f) = ungrounded f.point (outside (side_of f.side))
+kind_of_verdict (verdict.Long f) = ungrounded f.point (long (side_of f.side))
+kind_of_verdict (verdict.Halted f) = ungrounded f.point (halted (side_of f.side))
 
 -- a verdict is right: it is the problem's verdict for n steps, and carries a failure that shows it, but for void and equivalent
 abbrev pub IsRight : Problem → ℕ → Verdict → Type 0

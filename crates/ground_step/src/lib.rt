@@ -11,6 +11,7 @@ mod steps;
 #[cfg(test)]
 mod tests;
 mod verdict;
+mod verdict_laws;
 
 pub use first::{Ended, first_run};
 pub use reach::{GroundReach, cut_successors};
@@ -18,3 +19,4 @@ pub use relation::{Fit, point_states, related};
 pub use run::{Run, RunStep, RunSteps, Runs};
 pub use steps::{in_cut, successors};
 pub use verdict::{Failure, Reached, SideName, Verdict};
+pub use verdict_laws::{first_witnesses_show, right_verdicts_are_verdicts, witnesses_hold};

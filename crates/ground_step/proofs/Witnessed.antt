@@ -1,0 +1,59 @@
+-- What a failure that witnesses a kind says of its point.
+use Rattle.std.proofs.Common.{◌≡◌, ℕ, [], ap, sym, ◌∙◌, subst}
+use Rattle.sort_term.specs.declared.problem.Problem.{Problem}
+use Rattle.sort_term.specs.Tree.{Tree}
+use Rattle.sort_term.specs.Runs.{reached, IsLong, IsHalted}
+use Rattle.sort_term.specs.Relation.{Side, of_side, StepsOf, InCutOf, RightFails, LeftFails}
+use Rattle.sort_term.specs.Simulation.{IsPoint, Test, void, outside, long, halted, HasTest}
+use Rattle.sort_term.specs.Verdict.{ungrounded, unmatched, refines, AtPoint}
+use Rattle.ground_step.specs.declared.verdict.Failure.{Failure}
+use Rattle.ground_step.specs.declared.verdict.Verdict.TheVariants as verdict
+use Rattle.ground_step.specs.Shows.{Witness, IsRight, reached_tree, side_of}
+use Rattle.ground_step.specs.VerdictLaws.{WitnessedTestsHold, WitnessedRightsFail, WitnessedLeftsFail, FirstTestsShow, FirstRightsShow, FirstLeftsShow, RightVerdictsAreVerdicts}
+
+-- the point of the kind is that of the failure
+here : (q : Problem) (k : ℕ) (f : Failure) (P : _) → k ≡ f.point → AtPoint q P f.point → AtPoint q P k
+here q k f P e at = subst (AtPoint q P) (sym e) at
+
+pub tests_hold : WitnessedTestsHold
+tests_hold q n k void f w = absurd w.at
+tests_hold q n k (outside side) f w =
+    let stays : ¬ InCutOf q side (reached_tree f.reached) = subst (λ s. ¬ InCutOf q s (reached_tree f.reached)) (sym w.at.1) w.shown.1 in
+    let last : of_side side f.left.term f.right.term ≡ reached_tree f.reached = ap (λ s. of_side s f.left.term f.right.term) w.at.1 ∙ ap (reached (of_side (side_of f.side) f.left.term f.right.term)) (sym w.shown.0) ∙ w.last in
+    here q k f (λ p. HasTest q n p (outside side)) w.at.0 (w.point, w.there, (_, f.left.term, f.right.term, w.pair, subst (λ t. ¬ InCutOf q side t) (sym last) stays))
+tests_hold q n k (long side) f w =
+    here q k f (λ p. HasTest q n p (long side)) w.at.0 (w.point, w.there, (_, f.left.term, f.right.term, w.pair, (w.run, subst (λ s. IsLong (StepsOf q s) (InCutOf q s) n (of_side s f.left.term f.right.term) w.run) (sym w.at.1) w.shown)))
+tests_hold q n k (halted side) f w =
+    here q k f (λ p. HasTest q n p (halted side)) w.at.0 (w.point, w.there, (_, f.left.term, f.right.term, w.pair, (w.run, subst (λ s. IsHalted (StepsOf q s) (InCutOf q s) (of_side s f.left.term f.right.term) w.run) (sym w.at.1) w.shown)))
+
+-- the run ends in the state that the failure reaches, from the state of the side that is named
+ends : (q : Problem) (n : ℕ) (k : _) (f : Failure) (w : Witness q n k f) (s : Side) → side_of f.side ≡ s → reached (of_side s f.left.term f.right.term) w.run ≡ reached_tree f.reached
+ends q n k f w s e = subst (λ r. reached (of_side r f.left.term f.right.term) w.run ≡ reached_tree f.reached) e w.last
+
+pub rights_fail : WitnessedRightsFail
+rights_fail q n k f w =
+    here q k f (RightFails q) w.at.0 (w.point, w.there, (_, f.left.term, f.right.term, w.pair, (reached_tree f.reached, (w.run, w.shown.0, ends q n (unmatched k) f w _ w.at.1), w.shown.1)))
+
+pub lefts_fail : WitnessedLeftsFail
+lefts_fail q n k f w =
+    here q k f (LeftFails q) w.at.0 (w.point, w.there, (_, f.left.term, f.right.term, w.pair, (reached_tree f.reached, (w.run, w.shown.0, ends q n (refines k) f w _ w.at.1), w.shown.1)))
+
+pub first_tests : FirstTestsShow
+first_tests q n k t f before earlier w =
+    let at = tests_hold q n k t f w in
+    record { is = ((at.0, at.1, (at.2, earlier at.0 at.1)), before); witness = w }
+
+pub first_rights : FirstRightsShow
+first_rights q n k f grounded before w = record { is = (grounded, rights_fail q n k f w, before); witness = w }
+
+pub first_lefts : FirstLeftsShow
+first_lefts q n k f grounded simulates before w = record { is = (grounded, simulates, lefts_fail q n k f w, before); witness = w }
+
+pub right_is_verdict : RightVerdictsAreVerdicts
+right_is_verdict q n verdict.Equivalent r = r
+right_is_verdict q n (verdict.Refines f) r = r.is
+right_is_verdict q n (verdict.Unmatched f) r = r.is
+right_is_verdict q n (verdict.Void k) r = r
+right_is_verdict q n (verdict.Outside f) r = r.is
+right_is_verdict q n (verdict.Long f) r = r.is
+right_is_verdict q n (verdict.Halted f) r = r.is
