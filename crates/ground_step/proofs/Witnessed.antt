@@ -3,28 +3,32 @@ use Rattle.std.proofs.Common.{◌≡◌, ℕ, [], ap, sym, ◌∙◌, subst}
 use Rattle.sort_term.specs.declared.problem.Problem.{Problem}
 use Rattle.sort_term.specs.Tree.{Tree}
 use Rattle.sort_term.specs.Runs.{reached, IsLong, IsHalted}
-use Rattle.sort_term.specs.Relation.{Side, of_side, StepsOf, InCutOf, RightFails, LeftFails}
-use Rattle.sort_term.specs.Simulation.{IsPoint, Test, void, outside, long, halted, HasTest}
-use Rattle.sort_term.specs.Verdict.{ungrounded, unmatched, refines, AtPoint}
+use Rattle.sort_term.specs.Relation.{Side, of_side, IsStateOf, StepsOf, InCutOf, RightFails, LeftFails}
+use Rattle.sort_term.specs.Simulation.{Test, void, outside, long, halted, HasTest}
+use Rattle.sort_term.specs.Verdict.{Kind, ungrounded, unmatched, refines, AtPoint}
 use Rattle.ground_step.specs.declared.verdict.Failure.{Failure}
 use Rattle.ground_step.specs.declared.verdict.Verdict.TheVariants as verdict
-use Rattle.ground_step.specs.Shows.{Witness, IsRight, reached_tree, side_of}
+use Rattle.ground_step.specs.Shows.{Witness, IsRight, reached_tree, side_of, start_of}
 use Rattle.ground_step.specs.VerdictLaws.{WitnessedTestsHold, WitnessedRightsFail, WitnessedLeftsFail, FirstTestsShow, FirstRightsShow, FirstLeftsShow, RightVerdictsAreVerdicts}
 
 -- the point of the kind is that of the failure
 here : (q : Problem) (k : ℕ) (f : Failure) (P : _) → k ≡ f.point → AtPoint q P f.point → AtPoint q P k
 here q k f P e at = subst (AtPoint q P) (sym e) at
 
+-- the state from which its run begins is one of the side that is named, in a related pair of its point
+begins : (q : Problem) (n : ℕ) (kind : Kind) (f : Failure) (w : Witness q n kind f) (side : Side) → side_of f.side ≡ side → IsStateOf q w.point side (start_of f)
+begins q n kind f w side e = record { valuation = _; left_state = f.left.term; right_state = f.right.term; relates = w.pair; is = ap (λ s. of_side s f.left.term f.right.term) (sym e) }
+
 pub tests_hold : WitnessedTestsHold
 tests_hold q n k void f w = absurd w.at
 tests_hold q n k (outside side) f w =
     let stays : ¬ InCutOf q side (reached_tree f.reached) = subst (λ s. ¬ InCutOf q s (reached_tree f.reached)) (sym w.at.1) w.shown.1 in
-    let last : of_side side f.left.term f.right.term ≡ reached_tree f.reached = ap (λ s. of_side s f.left.term f.right.term) w.at.1 ∙ ap (reached (of_side (side_of f.side) f.left.term f.right.term)) (sym w.shown.0) ∙ w.last in
-    here q k f (λ p. HasTest q n p (outside side)) w.at.0 (w.point, w.there, (_, f.left.term, f.right.term, w.pair, subst (λ t. ¬ InCutOf q side t) (sym last) stays))
+    let last : start_of f ≡ reached_tree f.reached = ap (reached (start_of f)) (sym w.shown.0) ∙ w.last in
+    here q k f (λ p. HasTest q n p (outside side)) w.at.0 (w.point, w.there, (start_of f, begins q n _ f w side (sym w.at.1), subst (λ t. ¬ InCutOf q side t) (sym last) stays))
 tests_hold q n k (long side) f w =
-    here q k f (λ p. HasTest q n p (long side)) w.at.0 (w.point, w.there, (_, f.left.term, f.right.term, w.pair, (w.run, subst (λ s. IsLong (StepsOf q s) (InCutOf q s) n (of_side s f.left.term f.right.term) w.run) (sym w.at.1) w.shown)))
+    here q k f (λ p. HasTest q n p (long side)) w.at.0 (w.point, w.there, (start_of f, begins q n _ f w side (sym w.at.1), (w.run, subst (λ s. IsLong (StepsOf q s) (InCutOf q s) n (start_of f) w.run) (sym w.at.1) w.shown)))
 tests_hold q n k (halted side) f w =
-    here q k f (λ p. HasTest q n p (halted side)) w.at.0 (w.point, w.there, (_, f.left.term, f.right.term, w.pair, (w.run, subst (λ s. IsHalted (StepsOf q s) (InCutOf q s) (of_side s f.left.term f.right.term) w.run) (sym w.at.1) w.shown)))
+    here q k f (λ p. HasTest q n p (halted side)) w.at.0 (w.point, w.there, (start_of f, begins q n _ f w side (sym w.at.1), (w.run, subst (λ s. IsHalted (StepsOf q s) (InCutOf q s) (start_of f) w.run) (sym w.at.1) w.shown)))
 
 -- the run ends in the state that the failure reaches, from the state of the side that is named
 ends : (q : Problem) (n : ℕ) (k : _) (f : Failure) (w : Witness q n k f) (s : Side) → side_of f.side ≡ s → reached (of_side s f.left.term f.right.term) w.run ≡ reached_tree f.reached

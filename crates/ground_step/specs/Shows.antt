@@ -39,17 +39,21 @@ IsAt (unmatched k) point side = (k ≡ point) × (side ≡ right)
 IsAt (refines k) point side = (k ≡ point) × (side ≡ left)
 IsAt equivalent point side = ⊥
 
--- what a run from a related pair (a, b) to the state t shows of a kind, for n steps: void and equivalent are shown by none
-abbrev pub ShowsKind : Problem → ℕ → Kind → Side → Tree → Tree → List (ℕ × Tree) → Tree → Type 0
-ShowsKind q n (ungrounded k void) side a b run t = ⊥
-ShowsKind q n (ungrounded k (outside s)) side a b run t = (run ≡ []) × ¬ InCutOf q side t
-ShowsKind q n (ungrounded k (long s)) side a b run t = IsLong (StepsOf q side) (InCutOf q side) n (of_side side a b) run
-ShowsKind q n (ungrounded k (halted s)) side a b run t = IsHalted (StepsOf q side) (InCutOf q side) (of_side side a b) run
-ShowsKind q n (unmatched k) side a b run t =
-    IsMet (StepsOf q right) (InCutOf q right) b run × ((a' : Tree) → SucceedsOf q left a a' → ¬ Related q a' t)
-ShowsKind q n (refines k) side a b run t =
-    IsMet (StepsOf q left) (InCutOf q left) a run × ((b' : Tree) → SucceedsOf q right b b' → ¬ Related q t b')
-ShowsKind q n equivalent side a b run t = ⊥
+-- the state from which a failure's run begins
+abbrev pub start_of : Failure → Tree
+start_of f = of_side (side_of f.side) f.left.term f.right.term
+
+-- what the run of a failure shows of a kind, for n steps: void and equivalent are shown by none
+abbrev pub ShowsKind : Problem → ℕ → Kind → Failure → List (ℕ × Tree) → Type 0
+ShowsKind q n (ungrounded k void) f run = ⊥
+ShowsKind q n (ungrounded k (outside s)) f run = (run ≡ []) × ¬ InCutOf q (side_of f.side) (reached_tree f.reached)
+ShowsKind q n (ungrounded k (long s)) f run = IsLong (StepsOf q (side_of f.side)) (InCutOf q (side_of f.side)) n (start_of f) run
+ShowsKind q n (ungrounded k (halted s)) f run = IsHalted (StepsOf q (side_of f.side)) (InCutOf q (side_of f.side)) (start_of f) run
+ShowsKind q n (unmatched k) f run =
+    IsMet (StepsOf q right) (InCutOf q right) f.right.term run × ((a' : Tree) → SucceedsOf q left f.left.term a' → ¬ Related q a' (reached_tree f.reached))
+ShowsKind q n (refines k) f run =
+    IsMet (StepsOf q left) (InCutOf q left) f.left.term run × ((b' : Tree) → SucceedsOf q right f.right.term b' → ¬ Related q (reached_tree f.reached) b')
+ShowsKind q n equivalent f run = ⊥
 
 -- what a failure witnesses of a kind for n steps: a ground run from a related pair of the kind's point, on the kind's side
 pub record Witness (q : Problem) (n : ℕ) (kind : Kind) (f : Failure) : Type 0 where
@@ -60,12 +64,12 @@ pub record Witness (q : Problem) (n : ℕ) (kind : Kind) (f : Failure) : Type 0 
   pub pair : Relates q point (map (λ x. Plain x) f.values) f.left.term f.right.term
   -- its rules are those of a run of that side from that side's state to the state that it reaches
   pub run : List (ℕ × Tree)
-  pub runs : IsRun (StepsOf q (side_of f.side)) (of_side (side_of f.side) f.left.term f.right.term) run
+  pub runs : IsRun (StepsOf q (side_of f.side)) (start_of f) run
   pub rules : rules_of run ≡ map (λ r. r.0) f.rules
   pub side : reached_side f.reached ≡ side_of f.side
-  pub last : reached (of_side (side_of f.side) f.left.term f.right.term) run ≡ reached_tree f.reached
+  pub last : reached (start_of f) run ≡ reached_tree f.reached
   -- what the run shows
-  pub shown : ShowsKind q n kind (side_of f.side) f.left.term f.right.term run (reached_tree f.reached)
+  pub shown : ShowsKind q n kind f run
 
 -- a failure shows the verdict of a problem for n steps: the kind is the verdict, and the failure witnesses it
 pub record Shows (q : Problem) (n : ℕ) (kind : Kind) (f : Failure) : Type 0 where

@@ -2,8 +2,8 @@
 use Rattle.std.specs.Prelude.{ℕ, ◌<◌}
 use Rattle.sort_term.specs.declared.points.Point.{Point}
 use Rattle.sort_term.specs.declared.problem.Problem.{Problem}
-use Rattle.sort_term.specs.Relation.{RightFails, LeftFails}
-use Rattle.sort_term.specs.Simulation.{IsPoint, Test, HasTest, IsUngrounded, IsGrounded, IsCutSimulation}
+use Rattle.sort_term.specs.Relation.{IsPoint, RightFails, LeftFails}
+use Rattle.sort_term.specs.Simulation.{Test, HasTest, IsUngrounded, IsGrounded, IsCutSimulation}
 use Rattle.sort_term.specs.Verdict.{ungrounded, unmatched, refines, rank, AtPoint, NoneBefore, IsVerdict}
 use Rattle.ground_step.specs.declared.verdict.Failure.{Failure}
 use Rattle.ground_step.specs.declared.verdict.Verdict.{Verdict}
