@@ -1,3 +1,4 @@
+pub mod AlikeLemmas
 pub mod FlatLemmas
 pub mod GroundLemmas
 pub mod Grown
@@ -6,4 +7,5 @@ pub mod NodeLemmas
 pub mod OpLemmas
 pub mod TestLemmas
 pub mod TrialLemmas
+pub mod TruthLemmas
 pub mod WordLemmas

@@ -11,3 +11,5 @@ pub mod Views
 pub mod ValueTests
 pub mod Ground
 pub mod NodeLaws
+pub mod Truth
+pub mod Alike

@@ -2,8 +2,10 @@
 //! words. Bit vectors follow the theory `FixedSizeBitVectors` of SMT-LIB, also in division by zero and long shifts.
 #![tactic(auto)]
 
+mod applied;
 mod apply;
 mod compare;
+pub mod conditions;
 mod domain;
 mod flat_formula;
 mod ground;
