@@ -2,6 +2,7 @@ pub mod AlikeLemmas
 pub mod FlatLemmas
 pub mod GroundLemmas
 pub mod Grown
+pub mod KeyLemmas
 pub mod MapLemmas
 pub mod NodeLemmas
 pub mod OpLemmas

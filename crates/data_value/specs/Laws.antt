@@ -1,5 +1,5 @@
 -- What holds of the operators, of maps and of the trials, whatever the arguments.
-use Rattle.std.specs.Prelude.{◌≡◌, ◌≢◌, ℕ, ◌<◌, ◌^◌, IsTrue, ◌↔◌, List, Some, All, map, take, slice_get}
+use Rattle.std.specs.Prelude.{◌≡◌, ◌≢◌, ℕ, Bool, ◌<◌, ◌^◌, IsTrue, ◌↔◌, List, Some, All, map, take, slice_get}
 use Rattle.data_value.specs.declared.DataSort.{DataSort}
 use Rattle.data_value.specs.declared.Scalar.{Scalar}
 use Rattle.data_value.specs.declared.Value.{Value}
@@ -43,6 +43,10 @@ TestTellsSorts = (a b : DataSort) → IsTrue (same_sort a b) ↔ (a ≡ b)
 -- The test for equal scalars, which is the value of the operator for equality, tells them.
 abbrev pub TestTellsScalars : Type 0
 TestTellsScalars = (a b : Scalar) → IsTrue (same_scalar a b) ↔ (a ≡ b)
+
+-- A test is true exactly of equals.
+abbrev pub IsEquality : {X : Type 0} → (X → X → Bool) → Type 0
+IsEquality {X} eq = (a b : X) → IsTrue (eq a b) ↔ (a ≡ b)
 
 -- Every sort has a value.
 abbrev pub EverySortHasValue : Type 0

@@ -1,4 +1,4 @@
--- The test for values tells them: on this the law of the domain whose nodes are values rests.
+-- The test for values tells them. These are proofs: they stand here since the law of `Ground`, which rests on them, may cite no file of proofs.
 use Rattle.std.proofs.Common.{◌≤◌, ◌^◌, ℕ, suc, ◌&&◌, nat_lt, nat_le, List, [], ◌∷◌, All, Decides, refl}
 use Rattle.std.specs.List.{list_all}
 use Rattle.std.proofs.lemmas.Bool.Decides.{Decides-and, Decides-ltb, Decides-like, Decides-by_and}

@@ -1,5 +1,7 @@
 //! Laws of values, operators, maps and trials. Each function does nothing; its contract is the law.
-ghost use Rattle.data_value.specs.Laws.{OperatorsKeepSorts, ScalarsKeepSorts, OperatorsGiveSorts, ValuesHaveSorts, TestTellsValues, TestTellsSorts, TestTellsScalars, EverySortHasValue, TrialsFit, MapsAreReads, ReadsAreWords, PutsAreMaps, PutsReadBack, PutsLeaveOthers, PlacesHaveValues, PlacesKeepSorts, FormulasLackMaps};
+ghost use Rattle.data_value.specs.Laws.{OperatorsKeepSorts, ScalarsKeepSorts, OperatorsGiveSorts, ValuesHaveSorts, TestTellsValues, TestTellsSorts, TestTellsScalars, IsEquality, EverySortHasValue, TrialsFit, MapsAreReads, ReadsAreWords, PutsAreMaps, PutsReadBack, PutsLeaveOthers, PlacesHaveValues, PlacesKeepSorts, FormulasLackMaps};
+
+use crate::{DataSort, MapValue, Op, Scalar, Value};
 
 /// The value of an operator at values that it takes is a value, and has the sort that `sort_of` answers for it.
 pub fn operators_keep_sorts()
@@ -18,6 +20,15 @@ pub fn tests_tell()
     ensures values { TestTellsValues }
     ensures sorts { TestTellsSorts }
     ensures scalars { TestTellsScalars }
+{}
+
+/// The operator `==` is true exactly of equals: of sorts, scalars, operators, maps and values.
+pub fn equals_are_equal()
+    ensures sorts { IsEquality ⟦<DataSort as PartialEq>⟧.eq }
+    ensures scalars { IsEquality ⟦<Scalar as PartialEq>⟧.eq }
+    ensures operators { IsEquality ⟦<Op as PartialEq>⟧.eq }
+    ensures maps { IsEquality ⟦<MapValue as PartialEq>⟧.eq }
+    ensures values { IsEquality ⟦<Value as PartialEq>⟧.eq }
 {}
 
 /// Every sort has a value, and each of the 64 trials gives every variable one of its sort.

@@ -34,7 +34,7 @@ use sqlite_items::Items;
 pub use symbolic::{Symbolic, View};
 
 /// The sort of a value. Every width is from 1 to 64.
-#[derive(Clone, Copy, Debug, Drop, PartialEq, Eq)]
+#[derive(Clone, Copy, Debug, Drop, PartialEq, Eq, Hash)]
 pub enum DataSort {
     /// Truth values.
     Bool,
@@ -45,7 +45,7 @@ pub enum DataSort {
 }
 
 /// A truth value or a word.
-#[derive(Clone, Copy, Debug, Drop, PartialEq, Eq)]
+#[derive(Clone, Copy, Debug, Drop, PartialEq, Eq, Hash)]
 pub enum Scalar {
     /// A truth value.
     Flag(bool),
@@ -54,7 +54,7 @@ pub enum Scalar {
 }
 
 /// A truth value, a word or a map.
-#[derive(Debug, Drop)]
+#[derive(Debug, Drop, PartialEq, Eq, Hash)]
 pub enum Value {
     /// A truth value or a word.
     One(Scalar),
@@ -64,7 +64,7 @@ pub enum Value {
 
 /// An operator. Below, w is the width of its words and x and y are numbers below 2^w; "signed" reads two's complement.
 /// The name in brackets is that of SMT-LIB, whose meaning each of them has, also where y is 0 or at least w.
-#[derive(Clone, Copy, Debug, Drop, PartialEq, Eq)]
+#[derive(Clone, Copy, Debug, Drop, PartialEq, Eq, Hash)]
 pub enum Op {
     /// The negation of a truth value (`not`).
     Not,
