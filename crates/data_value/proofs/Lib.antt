@@ -9,4 +9,5 @@ pub mod OpLemmas
 pub mod TestLemmas
 pub mod TrialLemmas
 pub mod TruthLemmas
+pub mod ValuationLemmas
 pub mod WordLemmas

@@ -1,5 +1,5 @@
 //! Laws of values, operators, maps and trials. Each function does nothing; its contract is the law.
-ghost use Rattle.data_value.specs.Laws.{OperatorsKeepSorts, ScalarsKeepSorts, OperatorsGiveSorts, ValuesHaveSorts, TestTellsValues, TestTellsSorts, TestTellsScalars, IsEquality, EverySortHasValue, TrialsFit, MapsAreReads, ReadsAreWords, PutsAreMaps, PutsReadBack, PutsLeaveOthers, PlacesHaveValues, PlacesKeepSorts, FormulasLackMaps};
+ghost use Rattle.data_value.specs.Laws.{OperatorsKeepSorts, ScalarsKeepSorts, OperatorsGiveSorts, ValuesHaveSorts, TestTellsValues, TestTellsSorts, TestTellsScalars, IsEquality, EverySortHasValue, TrialsFit, ValuationsPart, ValuationsJoin, SortsHaveValuation, MapsAreReads, MapsDifferSomewhere, ReadsAreWords, PutsAreMaps, PutsReadBack, PutsLeaveOthers, PlacesHaveValues, PlacesKeepSorts, FormulasLackMaps};
 
 use crate::{DataSort, MapValue, Op, Scalar, Value};
 
@@ -37,9 +37,18 @@ pub fn sorts_have_values()
     ensures trials { TrialsFit }
 {}
 
-/// Two maps are equal exactly where their widths are and the word at every key.
+/// A valuation of joined lists of sorts is a valuation of each part, and every list of sorts has one.
+pub fn valuations_join()
+    ensures parts { ValuationsPart }
+    ensures whole { ValuationsJoin }
+    ensures every { SortsHaveValuation }
+{}
+
+/// Two maps are equal exactly where their widths are and the word at every key. Where maps of one sort aren't equal, a
+/// key is found at which they have different words.
 pub fn maps_are_their_reads()
     ensures equal { MapsAreReads }
+    ensures differ { MapsDifferSomewhere }
     ensures words { ReadsAreWords }
 {}
 
