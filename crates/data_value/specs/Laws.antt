@@ -7,7 +7,7 @@ use Rattle.data_value.specs.declared.Value.TheVariants.{One}
 use Rattle.data_value.specs.declared.Op.{Op}
 use Rattle.data_value.specs.declared.Op.TheVariants.{Get, Put}
 use Rattle.data_value.specs.declared.flat_formula.FlatNode.TheVariants.{Apply}
-use Rattle.data_value.specs.Sorts.{IsSort, same_sort, op_sort}
+use Rattle.data_value.specs.Sorts.{IsSort, is_sort, same_sort, op_sort}
 use Rattle.data_value.specs.Maps.{Mapping, IsMapping, SameReads, DifferSomewhere, read, write, put_into}
 use Rattle.data_value.specs.Values.{scalar_sort, map_sort, value_sort, IsScalar, IsValue, IsValueOf, is_value, same_scalar}
 use Rattle.data_value.specs.Ops.{scalar_value, op_value}
@@ -36,6 +36,10 @@ ValuesHaveSorts = (v : Value) → IsValue v → IsSort (value_sort v)
 -- The test for values tells them.
 abbrev pub TestTellsValues : Type 0
 TestTellsValues = (v : Value) → IsTrue (is_value v) ↔ IsValue v
+
+-- The test for sorts in range tells them.
+abbrev pub TestTellsSortsInRange : Type 0
+TestTellsSortsInRange = (s : DataSort) → IsTrue (is_sort s) ↔ IsSort s
 
 -- The test for equal sorts tells them.
 abbrev pub TestTellsSorts : Type 0

@@ -13,7 +13,7 @@ use Rattle.data_value.specs.Values.{IsValue, is_value}
 decides_leb : (m n : ℕ) → Decides (nat_le m n) (m ≤ n)
 decides_leb m n = (leb-true m n, le-leb m n)
 
-decides_width : (w : ℕ) → Decides (is_width w) (IsWidth w)
+pub decides_width : (w : ℕ) → Decides (is_width w) (IsWidth w)
 decides_width w = Decides-and (nat_le 1 w) (nat_le w 64) (decides_leb 1 w) (decides_leb w 64)
 
 decides_rises : (from : ℕ) (es : List (ℕ × ℕ)) → Decides (rises_from from es) (RisesFrom from es)

@@ -1,5 +1,5 @@
 //! Laws of values, operators, maps and trials. Each function does nothing; its contract is the law.
-ghost use Rattle.data_value.specs.Laws.{OperatorsKeepSorts, ScalarsKeepSorts, OperatorsGiveSorts, ValuesHaveSorts, TestTellsValues, TestTellsSorts, TestTellsScalars, IsEquality, EverySortHasValue, TrialsFit, ValuationsPart, ValuationsJoin, SortsHaveValuation, MapsAreReads, MapsDifferSomewhere, ReadsAreWords, PutsAreMaps, PutsReadBack, PutsLeaveOthers, PlacesHaveValues, PlacesKeepSorts, FormulasLackMaps};
+ghost use Rattle.data_value.specs.Laws.{OperatorsKeepSorts, ScalarsKeepSorts, OperatorsGiveSorts, ValuesHaveSorts, TestTellsValues, TestTellsSortsInRange, TestTellsSorts, TestTellsScalars, IsEquality, EverySortHasValue, TrialsFit, ValuationsPart, ValuationsJoin, SortsHaveValuation, MapsAreReads, MapsDifferSomewhere, ReadsAreWords, PutsAreMaps, PutsReadBack, PutsLeaveOthers, PlacesHaveValues, PlacesKeepSorts, FormulasLackMaps};
 
 use crate::{DataSort, MapValue, Op, Scalar, Value};
 
@@ -15,9 +15,10 @@ pub fn sorts_stay_in_range()
     ensures values { ValuesHaveSorts }
 {}
 
-/// The tests of the definitions are true exactly of values, of equal sorts and of equal scalars.
+/// The tests of the definitions are true exactly of values, of sorts in range, of equal sorts and of equal scalars.
 pub fn tests_tell()
     ensures values { TestTellsValues }
+    ensures in_range { TestTellsSortsInRange }
     ensures sorts { TestTellsSorts }
     ensures scalars { TestTellsScalars }
 {}

@@ -20,7 +20,7 @@ mod tests;
 mod words;
 
 pub use apply::apply_value;
-pub use compare::{copy_value, is_value, same_value, value_sort};
+pub use compare::{copy_value, fits_width, is_value, same_value, value_sort};
 pub use domain::Domain;
 pub use flat_formula::{
     Flat, FlatNode, FlatNodes, Places, Scalars, Widths, Words, are_words, flat_values, is_flat,
@@ -29,7 +29,7 @@ pub use ground::Ground;
 pub use map_value::MapValue;
 pub use no_memory::NoMemory;
 pub use scalars::apply_scalar;
-pub use sorts::sort_of;
+pub use sorts::{is_sort, sort_of};
 use sqlite_items::Items;
 pub use symbolic::{Symbolic, View};
 
