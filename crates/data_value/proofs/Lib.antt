@@ -1,9 +1,13 @@
+pub mod AlikeLemmas
 pub mod FlatLemmas
 pub mod GroundLemmas
 pub mod Grown
+pub mod KeyLemmas
 pub mod MapLemmas
 pub mod NodeLemmas
 pub mod OpLemmas
 pub mod TestLemmas
 pub mod TrialLemmas
+pub mod TruthLemmas
+pub mod ValuationLemmas
 pub mod WordLemmas

@@ -1,10 +1,11 @@
 -- Maps: a put gives a map, reads of a put, and equality by reads.
-use Rattle.std.proofs.Common.{◌≡◌, ◌≢◌, ◌<◌, ◌≤◌, ◌^◌, ℕ, suc, Bool, true, false, ◌==◌, List, [], ◌∷◌, ◌++◌, All, if◌then◌else◌, inl, inr, arith, ap, refl, sym, ◌∙◌, ◌&&◌, nat_lt, not}
+use Rattle.std.proofs.Common.{◌≡◌, ◌≢◌, ◌<◌, ◌≤◌, ◌^◌, ℕ, suc, Bool, true, false, ◌==◌, List, [], ◌∷◌, ◌++◌, All, if◌then◌else◌, ◌⊎◌, inl, inr, arith, ap, refl, sym, ◌∙◌, ◌&&◌, nat_lt, not}
 use Rattle.std.proofs.lemmas.Bool.{cases_order, cases_lt, lt-ltb, le-ltb, cases_eq, ne_eqb, eq-eqb}
 use Rattle.std.proofs.lemmas.Bool.Decides.{nat_tests}
 use Rattle.std.proofs.lemmas.List.Elements.{All-append, All-filter, All-nil, All-cons, All-head, All-tail}
 use Rattle.std.proofs.lemmas.Nat.{pow_pos}
-use Rattle.data_value.specs.Maps.{Mapping, IsMapping, SameReads, RisesFrom, FitsEntry, read, write, put_into, entries_below, entries_above, entry_of}
+use Rattle.data_value.specs.Values.{map_sort}
+use Rattle.data_value.specs.Maps.{Mapping, IsMapping, SameReads, DifferSomewhere, RisesFrom, FitsEntry, read, write, put_into, entries_below, entries_above, entry_of}
 
 rises_weaker : (a b : ℕ) (es : List (ℕ × ℕ)) → b ≤ a → RisesFrom a es → RisesFrom b es
 rises_weaker a b [] h r = tt
@@ -143,9 +144,8 @@ read-before from j (e ∷ es) r h =
     rw (ne_eqb e.0 j (λ q. omega (arith, r.0))) (read-before (suc e.0) j es r.1 (omega (arith, r.0)))
 
 -- an entry below all others is read, and they have no such key
-no_entry_before : (kw vw : ℕ) (x : ℕ × ℕ) (xs ys : List (ℕ × ℕ)) → FitsEntry kw vw x → RisesFrom (suc x.0) ys → ((j : ℕ) → j < 2 ^ kw → read (x ∷ xs) j ≡ read ys j) → ⊥
-no_entry_before kw vw x xs ys f s h =
-    let equal = h x.0 f.0 in
+entry_differs : (kw vw : ℕ) (x : ℕ × ℕ) (xs ys : List (ℕ × ℕ)) → FitsEntry kw vw x → RisesFrom (suc x.0) ys → read (x ∷ xs) x.0 ≢ read ys x.0
+entry_differs kw vw x xs ys f s equal =
     let here = read-head x xs in
     let there = read-before (suc x.0) x.0 ys s (omega arith) in
     omega (arith, f.1)
@@ -153,46 +153,64 @@ no_entry_before kw vw x xs ys f s h =
 same_pair : (x y : ℕ × ℕ) → x.0 ≡ y.0 → x.1 ≡ y.1 → x ≡ y
 same_pair x y p q = ap (λ (k : ℕ). let e : ℕ × ℕ = (k, x.1) in e) p ∙ ap (λ (v : ℕ). let e : ℕ × ℕ = (y.0, v) in e) q
 
--- equal reads of two lists of entries with one first key, beyond that key
-same_tails : (kw : ℕ) (x y : ℕ × ℕ) (xs ys : List (ℕ × ℕ)) → x.0 ≡ y.0 → RisesFrom (suc x.0) xs → RisesFrom (suc y.0) ys → ((j : ℕ) → j < 2 ^ kw → read (x ∷ xs) j ≡ read (y ∷ ys) j) → (j : ℕ) → j < 2 ^ kw → read xs j ≡ read ys j
-same_tails kw x y xs ys e r s h j l =
-    elim (cases_eq x.0 j) [
-      | inl q ↦
-          let a = read-before (suc x.0) j xs r (omega arith) in
-          let b = read-before (suc y.0) j ys s (omega arith) in
-          a ∙ sym b
-      | inr n ↦ sym (read-tail x xs j n) ∙ h j l ∙ read-tail y ys j (λ q. n (e ∙ q))
+-- what differs beyond one first key differs
+tails_differ : (kw : ℕ) (x y : ℕ × ℕ) (xs ys : List (ℕ × ℕ)) → x.0 ≡ y.0 → RisesFrom (suc x.0) xs → RisesFrom (suc y.0) ys → DifferSomewhere kw xs ys → DifferSomewhere kw (x ∷ xs) (y ∷ ys)
+tails_differ kw x y xs ys e r s d =
+    let j = d.0 in (
+      j,
+      d.1,
+      λ h. d.2 (elim (cases_eq x.0 j) [
+        | inl q ↦
+            let a = read-before (suc x.0) j xs r (omega arith) in
+            let b = read-before (suc y.0) j ys s (omega arith) in
+            a ∙ sym b
+        | inr n ↦ sym (read-tail x xs j n) ∙ h ∙ read-tail y ys j (λ q. n (e ∙ q))
+      ]),
+    )
+
+-- entries are equal, or their reads differ at a key of kw bits
+entries_differ : (kw vw from : ℕ) (xs ys : List (ℕ × ℕ)) → RisesFrom from xs → RisesFrom from ys → All (FitsEntry kw vw) xs → All (FitsEntry kw vw) ys → (xs ≡ ys) ⊎ DifferSomewhere kw xs ys
+entries_differ kw vw from [] [] r s f g = inl refl
+entries_differ kw vw from [] (y ∷ ys) r s f g =
+    let fits = All-head (FitsEntry kw vw) y ys g in inr (y.0, fits.0, λ e. entry_differs kw vw y ys [] fits tt (sym e))
+entries_differ kw vw from (x ∷ xs) [] r s f g =
+    let fits = All-head (FitsEntry kw vw) x xs f in inr (x.0, fits.0, entry_differs kw vw x xs [] fits tt)
+entries_differ kw vw from (x ∷ xs) (y ∷ ys) r s f g =
+    let P = FitsEntry kw vw in
+    let first = All-head P x xs f in
+    let second = All-head P y ys g in
+    elim (cases_order x.0 y.0) [
+      | inl e ↦ elim (cases_eq x.1 y.1) [
+        | inl word ↦ elim (entries_differ kw vw (suc x.0) xs ys r.1 (rw e s.1) (All-tail P x xs f) (All-tail P y ys g)) [
+          | inl rest ↦ inl (let head = same_pair x y e word in cc)
+          | inr d ↦ inr (tails_differ kw x y xs ys e r.1 s.1 d)
+        ]
+        | inr other ↦ inr (x.0, first.0, λ h. other (sym (read-head x xs) ∙ h ∙ ap (λ (k : ℕ). read (y ∷ ys) k) e ∙ read-head y ys))
+      ]
+      | inr n ↦ elim n [
+        | inl l ↦ inr (x.0, first.0, entry_differs kw vw x xs (y ∷ ys) first (omega arith, s.1))
+        | inr l ↦ inr (y.0, second.0, λ h. entry_differs kw vw y ys (x ∷ xs) second (omega arith, r.1) (sym h))
+      ]
     ]
 
 -- entries are determined by their reads at keys of kw bits
-pub same_entries : (kw vw from : ℕ) (xs ys : List (ℕ × ℕ)) → RisesFrom from xs → RisesFrom from ys → All (FitsEntry kw vw) xs → All (FitsEntry kw vw) ys → ((j : ℕ) → j < 2 ^ kw → read xs j ≡ read ys j) → xs ≡ ys
-same_entries kw vw from [] [] r s f g h = refl
-same_entries kw vw from [] (y ∷ ys) r s f g h =
-    absurd (no_entry_before kw vw y ys [] (All-head (FitsEntry kw vw) y ys g) tt (λ j l. sym (h j l)))
-same_entries kw vw from (x ∷ xs) [] r s f g h =
-    absurd (no_entry_before kw vw x xs [] (All-head (FitsEntry kw vw) x xs f) tt h)
-same_entries kw vw from (x ∷ xs) (y ∷ ys) r s f g h =
-    let P = FitsEntry kw vw in
-    elim (cases_order x.0 y.0) [
-      | inl e ↦
-          let word : x.1 ≡ y.1 =
-          sym (read-head x xs) ∙ h x.0 (All-head P x xs f).0 ∙ ap (λ (k : ℕ). read (y ∷ ys) k) e ∙ read-head y ys in
-          let first = same_pair x y e word in
-          let rest =
-          same_entries kw vw (suc x.0) xs ys r.1 (rw e s.1) (All-tail P x xs f) (All-tail P y ys g)
-          (same_tails kw x y xs ys e r.1 s.1 h) in
-          cc
-      | inr n ↦ elim n [
-        | inl l ↦ absurd (no_entry_before kw vw x xs (y ∷ ys) (All-head P x xs f) (omega arith, s.1) h)
-        | inr l ↦ absurd (no_entry_before kw vw y ys (x ∷ xs) (All-head P y ys g) (omega arith, r.1) (λ j q. sym (h j q)))
-      ]
-    ]
+same_entries : (kw vw from : ℕ) (xs ys : List (ℕ × ℕ)) → RisesFrom from xs → RisesFrom from ys → All (FitsEntry kw vw) xs → All (FitsEntry kw vw) ys → ((j : ℕ) → j < 2 ^ kw → read xs j ≡ read ys j) → xs ≡ ys
+same_entries kw vw from xs ys r s f g h =
+    elim (entries_differ kw vw from xs ys r s f g) [ inl e ↦ e | inr d ↦ absurd (d.2 (h d.0 d.1)) ]
 
 same_record : (m n : Mapping) → m.key_width ≡ n.key_width → m.word_width ≡ n.word_width → m.entries ≡ n.entries → m ≡ n
 same_record m n k w e =
     ap (λ (a : ℕ). let r : Mapping = record { key_width = a; word_width = m.word_width; entries = m.entries } in r) k
     ∙ ap (λ (a : ℕ). let r : Mapping = record { key_width = n.key_width; word_width = a; entries = m.entries } in r) w
     ∙ ap (λ (a : List (ℕ × ℕ)). let r : Mapping = record { key_width = n.key_width; word_width = n.word_width; entries = a } in r) e
+
+-- maps of one sort are equal, or their reads differ at a key
+pub maps_differ : (m n : Mapping) → IsMapping m → IsMapping n → map_sort m ≡ map_sort n → (m ≡ n) ⊎ DifferSomewhere m.key_width m.entries n.entries
+maps_differ m n v w e =
+    let keys : m.key_width ≡ n.key_width = cc in
+    let words : m.word_width ≡ n.word_width = cc in
+    let fits : All (FitsEntry m.key_width m.word_width) n.entries = rw (keys, words) w.fits in
+    elim (entries_differ m.key_width m.word_width 0 m.entries n.entries v.rises w.rises v.fits fits) [ inl same ↦ inl (same_record m n keys words same) | inr d ↦ inr d ]
 
 -- maps are equal where their widths and their reads are
 pub same_mapping : (m n : Mapping) → IsMapping m → IsMapping n → SameReads m n → m ≡ n

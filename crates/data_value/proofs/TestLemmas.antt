@@ -5,9 +5,16 @@ use Rattle.data_value.specs.declared.DataSort.{DataSort}
 use Rattle.data_value.specs.declared.DataSort.TheVariants.{Bool as BoolSort, Bits as BitsSort, Map as MapSort}
 use Rattle.data_value.specs.declared.Scalar.{Scalar}
 use Rattle.data_value.specs.declared.Scalar.TheVariants.{Flag, Bits}
-use Rattle.data_value.specs.Sorts.{same_sort}
+use Rattle.data_value.specs.Sorts.{IsSort, is_sort, is_width, same_sort}
 use Rattle.data_value.specs.Values.{same_scalar}
-pub use Rattle.data_value.specs.ValueTests.{decides_value}
+use Rattle.std.proofs.lemmas.Bool.Decides.{Decides-and}
+pub use Rattle.data_value.specs.ValueTests.{decides_value, decides_width}
+
+-- the widths of a sort that passes the test are widths
+pub decides_in_range : (s : DataSort) → Decides (is_sort s) (IsSort s)
+decides_in_range BoolSort = (λ _. tt, λ _. refl)
+decides_in_range (BitsSort w) = decides_width w
+decides_in_range (MapSort k v) = Decides-and (is_width k) (is_width v) (decides_width k) (decides_width v)
 
 -- sorts that pass the test are equal
 pub sorts_agree : (a b : DataSort) → same_sort a b ≡ true → a ≡ b

@@ -22,7 +22,7 @@ ground_seen x = record {
   size = 1;
 }
 
--- A scalar is known as itself.
+-- A scalar is known as itself. This and the next are the proof of the law of `Ground`, which may cite no file of proofs.
 pub known-is : (x : Value) (c : Scalar) → known_scalar x ≡ Some c → x ≡ One c
 known-is (One s) c h = cc
 known-is (Map m) c h = cc

@@ -1,5 +1,5 @@
 -- What holds of the operators, of maps and of the trials, whatever the arguments.
-use Rattle.std.specs.Prelude.{◌≡◌, ◌≢◌, ℕ, ◌<◌, ◌^◌, IsTrue, ◌↔◌, List, Some, All, map, take, slice_get}
+use Rattle.std.specs.Prelude.{◌≡◌, ◌≢◌, ℕ, Bool, ◌<◌, ◌^◌, IsTrue, ◌↔◌, ◌⊎◌, List, ◌++◌, Some, All, map, length, take, drop, slice_get}
 use Rattle.data_value.specs.declared.DataSort.{DataSort}
 use Rattle.data_value.specs.declared.Scalar.{Scalar}
 use Rattle.data_value.specs.declared.Value.{Value}
@@ -7,13 +7,14 @@ use Rattle.data_value.specs.declared.Value.TheVariants.{One}
 use Rattle.data_value.specs.declared.Op.{Op}
 use Rattle.data_value.specs.declared.Op.TheVariants.{Get, Put}
 use Rattle.data_value.specs.declared.flat_formula.FlatNode.TheVariants.{Apply}
-use Rattle.data_value.specs.Sorts.{IsSort, same_sort, op_sort}
-use Rattle.data_value.specs.Maps.{Mapping, IsMapping, SameReads, read, write, put_into}
-use Rattle.data_value.specs.Values.{scalar_sort, value_sort, IsScalar, IsValue, IsValueOf, is_value, same_scalar}
+use Rattle.data_value.specs.Sorts.{IsSort, is_sort, same_sort, op_sort}
+use Rattle.data_value.specs.Maps.{Mapping, IsMapping, SameReads, DifferSomewhere, read, write, put_into}
+use Rattle.data_value.specs.Values.{scalar_sort, map_sort, value_sort, IsScalar, IsValue, IsValueOf, is_value, same_scalar}
 use Rattle.data_value.specs.Ops.{scalar_value, op_value}
 use Rattle.data_value.specs.declared.flat_formula.FlatNode.{FlatNode}
 use Rattle.data_value.specs.declared.flat_formula.Flat.{Flat}
 use Rattle.data_value.specs.Flat.{AreWords, node_value, flat_sorts, flat_values}
+use Rattle.data_value.specs.Nodes.{IsValuation}
 use Rattle.data_value.specs.Trials.{trial}
 
 -- At values of sorts that an operator takes, its value is a value of the sort that it gives.
@@ -36,6 +37,10 @@ ValuesHaveSorts = (v : Value) → IsValue v → IsSort (value_sort v)
 abbrev pub TestTellsValues : Type 0
 TestTellsValues = (v : Value) → IsTrue (is_value v) ↔ IsValue v
 
+-- The test for sorts in range tells them.
+abbrev pub TestTellsSortsInRange : Type 0
+TestTellsSortsInRange = (s : DataSort) → IsTrue (is_sort s) ↔ IsSort s
+
 -- The test for equal sorts tells them.
 abbrev pub TestTellsSorts : Type 0
 TestTellsSorts = (a b : DataSort) → IsTrue (same_sort a b) ↔ (a ≡ b)
@@ -44,9 +49,25 @@ TestTellsSorts = (a b : DataSort) → IsTrue (same_sort a b) ↔ (a ≡ b)
 abbrev pub TestTellsScalars : Type 0
 TestTellsScalars = (a b : Scalar) → IsTrue (same_scalar a b) ↔ (a ≡ b)
 
+-- A test is true exactly of equals.
+abbrev pub IsEquality : {X : Type 0} → (X → X → Bool) → Type 0
+IsEquality {X} eq = (a b : X) → IsTrue (eq a b) ↔ (a ≡ b)
+
 -- Every sort has a value.
 abbrev pub EverySortHasValue : Type 0
 EverySortHasValue = (s : DataSort) → IsSort s → (v : Value) × IsValueOf s v
+
+-- A valuation of joined lists of sorts is a valuation of each part.
+abbrev pub ValuationsPart : Type 0
+ValuationsPart = (ss ts : List DataSort) (v : List Value) → IsValuation (ss ++ ts) v ↔ (IsValuation ss (take (length ss) v) × IsValuation ts (drop (length ss) v))
+
+-- Valuations of two lists of sorts, joined, are a valuation of the joined sorts.
+abbrev pub ValuationsJoin : Type 0
+ValuationsJoin = (ss ts : List DataSort) (v w : List Value) → IsValuation ss v → IsValuation ts w → IsValuation (ss ++ ts) (v ++ w)
+
+-- Every list of sorts has a valuation.
+abbrev pub SortsHaveValuation : Type 0
+SortsHaveValuation = (ss : List DataSort) → All IsSort ss → (v : List Value) × IsValuation ss v
 
 -- Every trial gives variables of these sorts values of these sorts, in their order.
 abbrev pub TrialsFit : Type 0
@@ -55,6 +76,10 @@ TrialsFit = (t : ℕ) (sorts : List DataSort) → All IsSort sorts → All IsVal
 -- Two maps are equal exactly where their widths and all their reads are.
 abbrev pub MapsAreReads : Type 0
 MapsAreReads = (m n : Mapping) → IsMapping m → IsMapping n → (m ≡ n) ↔ SameReads m n
+
+-- Two maps of one sort are equal, or there is a key at which their reads differ.
+abbrev pub MapsDifferSomewhere : Type 0
+MapsDifferSomewhere = (m n : Mapping) → IsMapping m → IsMapping n → map_sort m ≡ map_sort n → (m ≡ n) ⊎ DifferSomewhere m.key_width m.entries n.entries
 
 -- Every read of a map is one of its words.
 abbrev pub ReadsAreWords : Type 0

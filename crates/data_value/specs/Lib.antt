@@ -10,4 +10,7 @@ pub mod Nodes
 pub mod Views
 pub mod ValueTests
 pub mod Ground
+pub mod MapKeys
 pub mod NodeLaws
+pub mod Truth
+pub mod Alike

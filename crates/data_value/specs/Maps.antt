@@ -1,5 +1,5 @@
 -- Maps from words to words, all but finitely many of them zero.
-use Rattle.std.specs.Prelude.{◌≡◌, ℕ, ◌<◌, ◌≤◌, ◌^◌, Bool, true, ◌&&◌, ◌==◌, nat_lt, nat_le, if◌then◌else◌, List, [], ◌∷◌, ◌++◌, All, filter, suc}
+use Rattle.std.specs.Prelude.{◌≡◌, ◌≢◌, ℕ, ◌<◌, ◌≤◌, ◌^◌, Bool, true, ◌&&◌, ◌==◌, nat_lt, nat_le, if◌then◌else◌, List, [], ◌∷◌, ◌++◌, All, filter, suc}
 use Rattle.std.specs.List.{list_all}
 use Rattle.data_value.specs.Sorts.{IsWidth, is_width}
 
@@ -52,6 +52,10 @@ pub record SameReads (m n : Mapping) : Type 0 where
   pub key_widths : m.key_width ≡ n.key_width
   pub word_widths : m.word_width ≡ n.word_width
   pub reads : (k : ℕ) → k < 2 ^ m.key_width → read m.entries k ≡ read n.entries k
+
+-- There is a key of k bits at which the reads of two lists of entries differ.
+abbrev pub DifferSomewhere : ℕ → List (ℕ × ℕ) → List (ℕ × ℕ) → Type 0
+DifferSomewhere k es fs = (key : ℕ) × (key < 2 ^ k) × (read es key ≢ read fs key)
 
 -- The entries below a key.
 abbrev pub entries_below : ℕ → List (ℕ × ℕ) → List (ℕ × ℕ)

@@ -19,6 +19,12 @@ IsSort BoolSort = Unit {0}
 IsSort (BitsSort w) = IsWidth w
 IsSort (MapSort k v) = IsWidth k × IsWidth v
 
+-- Whether the widths of a sort are widths.
+abbrev pub is_sort : DataSort → Bool
+is_sort BoolSort = true
+is_sort (BitsSort w) = is_width w
+is_sort (MapSort k v) = is_width k && is_width v
+
 -- Whether two sorts are equal.
 abbrev pub same_sort : DataSort → DataSort → Bool
 same_sort BoolSort BoolSort = true

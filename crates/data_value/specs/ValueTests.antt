@@ -1,4 +1,4 @@
--- The test for values tells them: on this the law of the domain whose nodes are values rests.
+-- The test for values tells them. These are proofs: they stand here since the law of `Ground`, which rests on them, may cite no file of proofs.
 use Rattle.std.proofs.Common.{◌≤◌, ◌^◌, ℕ, suc, ◌&&◌, nat_lt, nat_le, List, [], ◌∷◌, All, Decides, refl}
 use Rattle.std.specs.List.{list_all}
 use Rattle.std.proofs.lemmas.Bool.Decides.{Decides-and, Decides-ltb, Decides-like, Decides-by_and}
@@ -13,7 +13,7 @@ use Rattle.data_value.specs.Values.{IsValue, is_value}
 decides_leb : (m n : ℕ) → Decides (nat_le m n) (m ≤ n)
 decides_leb m n = (leb-true m n, le-leb m n)
 
-decides_width : (w : ℕ) → Decides (is_width w) (IsWidth w)
+pub decides_width : (w : ℕ) → Decides (is_width w) (IsWidth w)
 decides_width w = Decides-and (nat_le 1 w) (nat_le w 64) (decides_leb 1 w) (decides_leb w 64)
 
 decides_rises : (from : ℕ) (es : List (ℕ × ℕ)) → Decides (rises_from from es) (RisesFrom from es)

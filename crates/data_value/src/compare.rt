@@ -1,5 +1,5 @@
 //! Sorts, equality and copies of values.
-ghost use Rattle.std.specs.Prelude.{◌≡◌, IsTrue, ◌↔◌, IfOk};
+ghost use Rattle.std.specs.Prelude.{◌≡◌, ◌<◌, ◌^◌, IsTrue, ◌↔◌, IfOk};
 ghost use Rattle.data_value.specs.Values.{scalar_sort, value_sort, IsScalar, IsValue};
 
 use crate::{DataSort, NoMemory, Scalar, Value};
@@ -24,11 +24,18 @@ pub fn value_sort(value: &Value) -> DataSort
     }
 }
 
+/// Whether a number is below 2 to the power of the width, so that a word of this width may have it.
+pub fn fits_width(width: u8, number: u64) -> bool
+    ensures { IsTrue result ↔ (number < 2 ^ width) }
+{
+    width >= 64 || number < 1 << width
+}
+
 /// Whether a width is from 1 to 64 and the number below 2 to its power.
 pub(crate) fn is_word(width: u8, bits: u64) -> bool
     ensures { IsTrue result ↔ IsScalar (Scalar.Bits width bits) }
 {
-    width == 64 || (1 <= width && width < 64 && bits < 1 << width)
+    1 <= width && width <= 64 && fits_width(width, bits)
 }
 
 /// Whether a value is one: a word's width is from 1 to 64 and its number below 2 to that power. Every map is one, and

@@ -6,7 +6,7 @@ ghost use Rattle.data_value.specs.Sorts.{IsWidth};
 ghost use Rattle.data_value.specs.Values.{scalar_sort, is_scalar, IsScalar};
 ghost use Rattle.data_value.specs.Flat.{HaveSorts, IsFlat, AreWords, at_places, node_sort, node_value, flat_sorts, flat_values};
 
-use crate::compare::{is_word, sort_of_scalar};
+use crate::compare::{fits_width, is_word, sort_of_scalar};
 use crate::{DataSort, DataSorts, NoMemory, Op, Scalar, apply_scalar, sort_of};
 use sqlite_items::Items;
 use std::alloc::Global;
@@ -80,7 +80,7 @@ pub fn are_words(widths: &[u8], words: &[u64]) -> bool
         return false;
     }
     for i in 0..widths.len() {
-        if !fits(widths[i], words[i]) {
+        if !fits_width(widths[i], words[i]) {
             return false;
         }
     }
@@ -112,12 +112,6 @@ fn at_places<T: Copy>(alloc: Global, items: &[T], places: &[usize]) -> Result<It
         found.push(items[*place])?;
     }
     Ok(found)
-}
-
-fn fits(width: u8, word: u64) -> bool
-    ensures { IsTrue result ↔ (word < 2 ^ width) }
-{
-    width >= 64 || word < 1 << width
 }
 
 fn are_below(places: &[usize], n: usize) -> bool

@@ -8,7 +8,7 @@ use std::alloc::Global;
 #[cfg(test)]
 mod tests;
 
-/// The domain whose nodes are values and which has no variables. Every value is a node of it.
+/// The domain whose nodes are the values in range, those of which `is_value` is true, and which has no variables.
 #[derive(Drop)]
 pub struct Ground {
     alloc: Global,

@@ -2,8 +2,10 @@
 //! words. Bit vectors follow the theory `FixedSizeBitVectors` of SMT-LIB, also in division by zero and long shifts.
 #![tactic(auto)]
 
+mod applied;
 mod apply;
 mod compare;
+pub mod conditions;
 mod domain;
 mod flat_formula;
 mod ground;
@@ -18,7 +20,7 @@ mod tests;
 mod words;
 
 pub use apply::apply_value;
-pub use compare::{copy_value, is_value, same_value, value_sort};
+pub use compare::{copy_value, fits_width, is_value, same_value, value_sort};
 pub use domain::Domain;
 pub use flat_formula::{
     Flat, FlatNode, FlatNodes, Places, Scalars, Widths, Words, are_words, flat_values, is_flat,
@@ -27,12 +29,12 @@ pub use ground::Ground;
 pub use map_value::MapValue;
 pub use no_memory::NoMemory;
 pub use scalars::apply_scalar;
-pub use sorts::sort_of;
+pub use sorts::{is_sort, sort_of};
 use sqlite_items::Items;
 pub use symbolic::{Symbolic, View};
 
 /// The sort of a value. Every width is from 1 to 64.
-#[derive(Clone, Copy, Debug, Drop, PartialEq, Eq)]
+#[derive(Clone, Copy, Debug, Drop, PartialEq, Eq, Hash)]
 pub enum DataSort {
     /// Truth values.
     Bool,
@@ -43,7 +45,7 @@ pub enum DataSort {
 }
 
 /// A truth value or a word.
-#[derive(Clone, Copy, Debug, Drop, PartialEq, Eq)]
+#[derive(Clone, Copy, Debug, Drop, PartialEq, Eq, Hash)]
 pub enum Scalar {
     /// A truth value.
     Flag(bool),
@@ -52,7 +54,7 @@ pub enum Scalar {
 }
 
 /// A truth value, a word or a map.
-#[derive(Debug, Drop)]
+#[derive(Debug, Drop, PartialEq, Eq, Hash)]
 pub enum Value {
     /// A truth value or a word.
     One(Scalar),
@@ -62,7 +64,7 @@ pub enum Value {
 
 /// An operator. Below, w is the width of its words and x and y are numbers below 2^w; "signed" reads two's complement.
 /// The name in brackets is that of SMT-LIB, whose meaning each of them has, also where y is 0 or at least w.
-#[derive(Clone, Copy, Debug, Drop, PartialEq, Eq)]
+#[derive(Clone, Copy, Debug, Drop, PartialEq, Eq, Hash)]
 pub enum Op {
     /// The negation of a truth value (`not`).
     Not,

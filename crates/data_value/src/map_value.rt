@@ -3,9 +3,12 @@ ghost use Rattle.std.specs.Prelude.{◌≡◌, ◌<◌, ◌^◌, [], length, sli
 ghost use Rattle.data_value.specs.Maps.{IsMapping, zero_map, read, write, put_into, entries_below, entries_above};
 ghost use Rattle.data_value.specs.Sorts.{IsWidth};
 ghost use Rattle.data_value.specs.Values.{map_sort};
+ghost use Rattle.data_value.specs.MapKeys.{same_mapping, same_mapping_equiv, mapping_input, mapping_alike};
+ghost use Rattle.std.specs.Cmp as cmp;
 
 use crate::{DataSort, NoMemory, Scalar};
 use std::alloc::{AllocError, Global};
+use std::hash::{Hash, Hasher};
 use std::marker::Model;
 
 /// A map that gives each key of one width a word of another, all but finitely many of them zero. It is kept as its
@@ -127,6 +130,35 @@ impl MapValue {
         self.key_width == other.key_width
             && self.word_width == other.word_width
             && same_entries(&self.entries, &other.entries)
+    }
+}
+
+// Two maps are equal exactly where their widths are and the word at every key.
+impl PartialEq for MapValue {
+    ghost eq = { same_mapping };
+
+    ghost laws = { cmp.partial_equiv_from_equiv same_mapping_equiv };
+
+    fn eq(&self, other: &MapValue) -> bool {
+        self.key_width == other.key_width
+            && self.word_width == other.word_width
+            && self.entries == other.entries
+    }
+}
+
+impl Eq for MapValue {
+    ghost laws = { same_mapping_equiv };
+}
+
+impl Hash for MapValue {
+    ghost hash_input = { mapping_input };
+
+    ghost respects_eq = { mapping_alike.fed };
+
+    fn hash<H: Hasher>(&self, state: &mut H) {
+        self.key_width.hash(state);
+        self.word_width.hash(state);
+        self.entries.hash(state);
     }
 }
 

@@ -1,6 +1,6 @@
 //! The sort of an operator's value.
 ghost use Rattle.std.specs.Prelude.{◌≡◌, Some};
-ghost use Rattle.data_value.specs.Sorts.{op_sort, same_sort, is_scalar_sort, flag_sort, flags_sort, choice_sort, equality_sort, word_sort, same_words_sort, get_sort, put_sort};
+ghost use Rattle.data_value.specs.Sorts.{op_sort, is_sort, is_width, same_sort, is_scalar_sort, flag_sort, flags_sort, choice_sort, equality_sort, word_sort, same_words_sort, get_sort, put_sort};
 ghost use Rattle.data_value.specs.declared.DataSort.TheVariants.{Bits, Bool as Flags};
 ghost use Rattle.data_value.specs.declared.Op.TheVariants.{Concat, Extract, Zext};
 
@@ -35,6 +35,23 @@ pub fn sort_of(op: Op, sorts: &[DataSort]) -> Option<DataSort>
         Op::Get => sort_of_get(sorts),
         Op::Put => sort_of_put(sorts),
     }
+}
+
+/// Whether the widths of a sort are from 1 to 64. It takes no memory.
+pub fn is_sort(sort: DataSort) -> bool
+    ensures { result ≡ is_sort sort }
+{
+    match sort {
+        DataSort::Bool => true,
+        DataSort::Bits(width) => is_width(width),
+        DataSort::Map(key, word) => is_width(key) && is_width(word),
+    }
+}
+
+fn is_width(width: u8) -> bool
+    ensures { result ≡ is_width width }
+{
+    1 <= width && width <= 64
 }
 
 fn is_scalar(sort: DataSort) -> bool

@@ -7,6 +7,7 @@ ghost use Rattle.data_value.specs.Views.{shown_in, BeginsWith, IsVariable, IsVie
 use crate::{DataSort, Domain, NoMemory, Op, Value};
 
 /// What a node shows.
+#[derive(Drop)]
 pub enum View<'a, N> {
     /// The variable with this index.
     Variable(usize),

@@ -1,7 +1,7 @@
 use Rattle.std.proofs.Common.{◌≤◌, ◌^◌, arith}
 use Rattle.std.proofs.lemmas.Bool.{le-leb}
 use Rattle.std.proofs.Math.Nat.{pow-le-pow_right}
-use Rattle.data_value.proofs.flat_formula.fits.Goals as goal
+use Rattle.data_value.proofs.compare.fits_width.Goals as goal
 
 pub returns-then-width-ge64 : goal.returns-then-width-ge64
 returns-then-width-ge64 c =
