@@ -29,7 +29,7 @@ pub use ground::Ground;
 pub use map_value::MapValue;
 pub use no_memory::NoMemory;
 pub use scalars::apply_scalar;
-pub use sorts::{is_sort, sort_of};
+pub use sorts::{is_sort, same_sort, sort_of};
 use sqlite_items::Items;
 pub use symbolic::{Symbolic, View};
 

@@ -60,7 +60,8 @@ fn is_scalar(sort: DataSort) -> bool
     !matches!(sort, DataSort::Map(..))
 }
 
-fn is_same(a: DataSort, b: DataSort) -> bool
+/// Whether two sorts are equal. It takes no memory.
+pub fn same_sort(a: DataSort, b: DataSort) -> bool
     ensures { result ≡ same_sort a b }
 {
     match (a, b) {
@@ -94,7 +95,7 @@ fn sort_of_choice(sorts: &[DataSort]) -> Option<DataSort>
 {
     match sorts {
         [DataSort::Bool, a, b] => {
-            if is_scalar(*a) && is_same(*a, *b) {
+            if is_scalar(*a) && same_sort(*a, *b) {
                 Some(*a)
             } else {
                 None
@@ -109,7 +110,7 @@ fn sort_of_equality(sorts: &[DataSort]) -> Option<DataSort>
 {
     match sorts {
         [a, b] => {
-            if is_scalar(*a) && is_same(*a, *b) {
+            if is_scalar(*a) && same_sort(*a, *b) {
                 Some(DataSort::Bool)
             } else {
                 None

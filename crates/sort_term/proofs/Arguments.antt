@@ -85,8 +85,8 @@ module _ (cons : List Con) (vars : List Var) (v w : Trees) (i : ℕ) where
       let same : value v x ≡ value w x = cc in
       let more : map (value v) es ≡ map (value w) es = cc in
       elim (either_true ((argument_of i x).0 || (argument_of i x).1) (list_any (λ part. part.0 || part.1) (map (argument_of i) es)) t) [
-        inl first ↦ k.0 s sort same (either_true (argument_of i x).0 (argument_of i x).1 first)
-      | inr later ↦ parts_agree es k.1 ss sorts more later
+        | inl first ↦ k.0 s sort same (either_true (argument_of i x).0 (argument_of i x).1 first)
+        | inr later ↦ parts_agree es k.1 ss sorts more later
       ]
 
   agrees_var : (j : ℕ) → AgreesOn (expr.Var j)

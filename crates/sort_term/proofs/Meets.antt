@@ -157,19 +157,19 @@ module _ {S : Type 0} (Steps : ℕ → S → S → Type 0) (In : S → Type 0) w
   splits n zero s again (x ∷ more) l runs = absurd (omega arith)
   splits n (suc k) s again (x ∷ more) l runs =
       elim (parts n s (x ∷ more) (again [] tt (x ∷ more) runs (not_empty x more))) [
-        inl clear ↦ record { mets = []; rest = x ∷ more; is = refl; are_met = tt; clear = clear }
-      | inr f ↦
-          let moves = met_moves s f.0 f.1 in
-          let long : length f.0 + length f.2.rest ≡ length (x ∷ more) = sym (length-append f.0 f.2.rest) ∙ ap length f.2.is in
-          let there = run_split Steps s f.0 f.2.rest (subst (IsRun Steps s) (sym f.2.is) runs) in
-          let later = splits n k (reached s f.0) (λ mets m. again (f.0 ∷ mets) (f.1, m)) f.2.rest (omega arith) there.1 in
-          record {
-            mets = f.0 ∷ later.mets;
-            rest = later.rest;
-            is = append_assoc f.0 (joined later.mets) later.rest ∙ ap (λ l. f.0 ++ l) later.is ∙ f.2.is;
-            are_met = (f.1, later.are_met);
-            clear = later.clear;
-          }
+        | inl clear ↦ record { mets = []; rest = x ∷ more; is = refl; are_met = tt; clear = clear }
+        | inr f ↦
+            let moves = met_moves s f.0 f.1 in
+            let long : length f.0 + length f.2.rest ≡ length (x ∷ more) = sym (length-append f.0 f.2.rest) ∙ ap length f.2.is in
+            let there = run_split Steps s f.0 f.2.rest (subst (IsRun Steps s) (sym f.2.is) runs) in
+            let later = splits n k (reached s f.0) (λ mets m. again (f.0 ∷ mets) (f.1, m)) f.2.rest (omega arith) there.1 in
+            record {
+              mets = f.0 ∷ later.mets;
+              rest = later.rest;
+              is = append_assoc f.0 (joined later.mets) later.rest ∙ ap (λ l. f.0 ++ l) later.is ∙ f.2.is;
+              are_met = (f.1, later.are_met);
+              clear = later.clear;
+            }
       ]
     where
       not_empty : (y : ℕ × S) (ys : List (ℕ × S)) → y ∷ ys ≢ []

@@ -1,9 +1,7 @@
 -- What the checks of a text make sure of: sorts, variables, constructors and tables.
-use Rattle.std.specs.Prelude.{◌≡◌, ℕ, ◌<◌, ◌≤◌, Bool, true, false, ◌&&◌, ◌==◌, nat_lt, IsTrue, List, length, take, slice_get, Some, All}
+use Rattle.std.specs.Prelude.{◌≡◌, ℕ, ◌<◌, ◌≤◌, Bool, false, ◌==◌, nat_lt, IsTrue, List, length, take, slice_get, Some, All}
 use Rattle.std.specs.List.{list_any}
-use Rattle.data_value.specs.declared.DataSort.{DataSort}
-use Rattle.data_value.specs.declared.DataSort.TheVariants.{Bool as BoolSort, Bits as BitsSort, Map as MapSort}
-use Rattle.data_value.specs.Sorts.{IsWidth, is_width, is_scalar_sort}
+use Rattle.data_value.specs.Sorts.{IsWidth, is_sort, is_scalar_sort}
 use Rattle.sort_term.specs.declared.ids.SortId.{SortId}
 use Rattle.sort_term.specs.declared.term.Sort.{Sort}
 use Rattle.sort_term.specs.declared.term.Sort.TheVariants.{Own, Plain}
@@ -12,12 +10,6 @@ use Rattle.sort_term.specs.declared.semantics.Table.{Table}
 use Rattle.sort_term.specs.declared.rule.Var.{Var}
 use Rattle.sort_term.specs.Names.{IsFree, AreDistinct}
 
--- whether the widths of a sort of data are from 1 to 64
-abbrev pub is_data_sort : DataSort → Bool
-is_data_sort BoolSort = true
-is_data_sort (BitsSort w) = is_width w
-is_data_sort (MapSort k v) = is_width k && is_width v
-
 -- whether one of the constructors makes trees of a declared sort
 abbrev pub has_con : List Con → SortId → Bool
 has_con cons a = list_any (λ c. c.sort.0 == a.0) cons
@@ -25,17 +17,17 @@ has_con cons a = list_any (λ c. c.sort.0 == a.0) cons
 -- whether a sort may be used where these constructors are declared: a declared sort that one of them makes, or a sort of data
 abbrev pub is_usable : List Con → Sort → Bool
 is_usable cons (Own a) = has_con cons a
-is_usable cons (Plain a) = is_data_sort a
+is_usable cons (Plain a) = is_sort a
 
 -- whether a sort is one of the declared sorts or a sort of data
 abbrev pub is_known : List (List ℕ) → Sort → Bool
 is_known sorts (Own a) = nat_lt a.0 (length sorts)
-is_known sorts (Plain a) = is_data_sort a
+is_known sorts (Plain a) = is_sort a
 
 -- whether a sort is a sort of data
 abbrev pub is_plain : Sort → Bool
 is_plain (Own a) = false
-is_plain (Plain a) = is_data_sort a
+is_plain (Plain a) = is_sort a
 
 -- whether a sort is that of truth values or of bit vectors
 abbrev pub is_scalar_own : Sort → Bool

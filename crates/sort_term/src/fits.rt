@@ -17,19 +17,13 @@ use crate::signature::{are_known_vars, are_plain_vars};
 use crate::sorted::{is_expr_of, is_pattern_of, is_tree_of};
 use crate::stands::is_argument;
 use crate::term::{Left, Right, Side, Sort};
-use data_value::DataSort;
-
-fn is_key(width: u8, key: u64) -> bool
-    ensures { IsTrue result ↔ (key < 2 ^ width) }
-{
-    64 <= width || key < 1 << width
-}
+use data_value::{DataSort, fits_width};
 
 /// Whether a row passes its checks in a table. It takes no memory.
 pub fn is_row(cons: &[Con], table: &Table, row: &Row) -> bool
     ensures { IsTrue result ↔ IsRow cons.now table.now row.now }
 {
-    is_key(table.key, row.key) && is_tree_of(cons, table.sort, &row.term)
+    fits_width(table.key, row.key) && is_tree_of(cons, table.sort, &row.term)
 }
 
 /// Whether one of the rows has a key. It takes no memory.

@@ -24,42 +24,110 @@ mod stands;
 mod term;
 mod tree;
 
-pub use bound::{all_stand_in, are_bound_in_time, repeats_only_scalars, times_in};
-pub use fits::{
-    are_cuts, are_determined, are_points, are_rows, are_whens, has_key, is_cut, is_point,
-    is_program, is_row,
-};
-pub use ground_laws::{runs_split_at_cuts, well_grounded_is_grounded};
-pub use ids::{ConId, RuleId, RuleIds, SortId, TableId};
-pub use named::{Named, are_distinct, are_free, has_name};
-pub use node_term_laws::{
-    ground_terms_are_trees, terms_depend_on_variables, terms_mean_their_sorts, terms_stay,
-};
+pub use bound::all_stand_in;
+pub use bound::are_bound_in_time;
+pub use bound::repeats_only_scalars;
+pub use bound::times_in;
+pub use fits::are_cuts;
+pub use fits::are_determined;
+pub use fits::are_points;
+pub use fits::are_rows;
+pub use fits::are_whens;
+pub use fits::has_key;
+pub use fits::is_cut;
+pub use fits::is_point;
+pub use fits::is_program;
+pub use fits::is_row;
+pub use ground_laws::runs_split_at_cuts;
+pub use ground_laws::well_grounded_is_grounded;
+pub use ids::ConId;
+pub use ids::RuleId;
+pub use ids::RuleIds;
+pub use ids::SortId;
+pub use ids::TableId;
+pub use named::Named;
+pub use named::are_distinct;
+pub use named::are_free;
+pub use named::has_name;
+pub use node_term_laws::ground_terms_are_trees;
+pub use node_term_laws::terms_depend_on_variables;
+pub use node_term_laws::terms_mean_their_sorts;
+pub use node_term_laws::terms_stay;
 pub use partner_laws::partners_leave_no_failure;
-pub use points::{Cut, Cuts, Point, PointList, Points};
+pub use points::Cut;
+pub use points::Cuts;
+pub use points::Point;
+pub use points::PointList;
+pub use points::Points;
 pub use problem::Problem;
-pub use program::{Program, Row, RowLists, Rows};
+pub use program::Program;
+pub use program::Row;
+pub use program::RowLists;
+pub use program::Rows;
 pub use relation_laws::related_pairs_have_one_valuation;
-pub use reserved::{RESERVED_WORDS, is_reserved};
-pub use rule::{
-    Demand, Demands, Pattern, Patterns, Rule, RuleExpr, RuleExprs, Rules, Source, Var, Vars,
-};
-pub use rule_checks::{demand_sort, is_rule, is_semantics};
-pub use run_laws::{
-    cut_valuations_are_unique, met_runs_are_short, rule_steps_are_unique, verdict_is_unique,
-};
-pub use semantics::{Con, Cons, Names, Semantics, Table, Tables};
-pub use signature::{
-    are_cons, are_known_vars, are_plain_vars, are_sorts, are_tables, are_usable_vars, has_con,
-    is_con, is_known, is_plain, is_scalar, is_table, is_usable,
-};
-pub use sort_laws::{steps_keep_states, values_keep_sorts};
-pub use sorted::{
-    expr_sort, is_expr_of, is_pattern_of, is_same_sort, is_tree_of, pattern_sort, tree_sort,
-};
-pub use stands::{demand_reads, is_argument, reads, times};
-pub use term::{Config, Left, Right, Side, Sort, Sorts, State, Term, Terms};
-pub use tree::{copy_term, same_term};
+pub use reserved::RESERVED_WORDS;
+pub use reserved::is_reserved;
+pub use rule::Demand;
+pub use rule::Demands;
+pub use rule::Pattern;
+pub use rule::Patterns;
+pub use rule::Rule;
+pub use rule::RuleExpr;
+pub use rule::RuleExprs;
+pub use rule::Rules;
+pub use rule::Source;
+pub use rule::Var;
+pub use rule::Vars;
+pub use rule_checks::demand_sort;
+pub use rule_checks::is_rule;
+pub use rule_checks::is_semantics;
+pub use run_laws::cut_valuations_are_unique;
+pub use run_laws::met_runs_are_short;
+pub use run_laws::rule_steps_are_unique;
+pub use run_laws::verdict_is_unique;
+pub use semantics::Con;
+pub use semantics::Cons;
+pub use semantics::Names;
+pub use semantics::Semantics;
+pub use semantics::Table;
+pub use semantics::Tables;
+pub use signature::are_cons;
+pub use signature::are_known_vars;
+pub use signature::are_plain_vars;
+pub use signature::are_sorts;
+pub use signature::are_tables;
+pub use signature::are_usable_vars;
+pub use signature::has_con;
+pub use signature::is_con;
+pub use signature::is_known;
+pub use signature::is_plain;
+pub use signature::is_scalar;
+pub use signature::is_table;
+pub use signature::is_usable;
+pub use sort_laws::steps_keep_states;
+pub use sort_laws::values_keep_sorts;
+pub use sorted::expr_sort;
+pub use sorted::is_expr_of;
+pub use sorted::is_pattern_of;
+pub use sorted::is_same_sort;
+pub use sorted::is_tree_of;
+pub use sorted::pattern_sort;
+pub use sorted::tree_sort;
+pub use stands::demand_reads;
+pub use stands::is_argument;
+pub use stands::reads;
+pub use stands::times;
+pub use term::Config;
+pub use term::Left;
+pub use term::Right;
+pub use term::Side;
+pub use term::Sort;
+pub use term::Sorts;
+pub use term::State;
+pub use term::Term;
+pub use term::Terms;
+pub use tree::copy_term;
+pub use tree::same_term;
 
 #[cfg(test)]
 mod tests;

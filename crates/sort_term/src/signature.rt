@@ -1,7 +1,7 @@
 //! Whether sorts, variables, constructors and tables pass their checks.
 ghost use Rattle.std.specs.Prelude.{◌≡◌, ℕ, ◌≤◌, IsTrue, ◌↔◌, List, length, All};
 ghost use Rattle.sort_term.specs.Names.{IsFree, AreDistinct};
-ghost use Rattle.sort_term.specs.Signature.{is_data_sort, has_con, is_usable, is_known, is_plain, is_scalar_own, AreVars, IsCon, IsTable, AreSorts, AreDeclared, AreCons, AreTables};
+ghost use Rattle.sort_term.specs.Signature.{has_con, is_usable, is_known, is_plain, is_scalar_own, AreVars, IsCon, IsTable, AreSorts, AreDeclared, AreCons, AreTables};
 
 use crate::ids::SortId;
 use crate::named::{are_distinct, are_free};
@@ -9,24 +9,8 @@ use crate::reserved::is_reserved;
 use crate::rule::Var;
 use crate::semantics::{Con, Table};
 use crate::term::Sort;
-use data_value::DataSort;
+use data_value::{DataSort, is_sort};
 use sexp_text::Name;
-
-fn is_width(width: u8) -> bool
-    ensures { result ≡ is_data_sort (DataSort.Bits width) }
-{
-    1 <= width && width <= 64
-}
-
-fn is_data_sort(sort: DataSort) -> bool
-    ensures { result ≡ is_data_sort sort }
-{
-    match sort {
-        DataSort::Bool => true,
-        DataSort::Bits(width) => is_width(width),
-        DataSort::Map(key, width) => is_width(key) && is_width(width),
-    }
-}
 
 /// Whether one of the constructors makes trees of a declared sort. It takes no memory.
 pub fn has_con(cons: &[Con], sort: SortId) -> bool
@@ -42,7 +26,7 @@ pub fn is_usable(cons: &[Con], sort: Sort) -> bool
 {
     match sort {
         Sort::Own(own) => has_con(cons, own),
-        Sort::Plain(data) => is_data_sort(data),
+        Sort::Plain(data) => is_sort(data),
     }
 }
 
@@ -52,7 +36,7 @@ pub fn is_known(sorts: &[Name], sort: Sort) -> bool
 {
     match sort {
         Sort::Own(own) => own.0 < sorts.len(),
-        Sort::Plain(data) => is_data_sort(data),
+        Sort::Plain(data) => is_sort(data),
     }
 }
 
@@ -62,7 +46,7 @@ pub fn is_plain(sort: Sort) -> bool
 {
     match sort {
         Sort::Own(_) => false,
-        Sort::Plain(data) => is_data_sort(data),
+        Sort::Plain(data) => is_sort(data),
     }
 }
 
@@ -123,7 +107,9 @@ pub fn is_con(sorts: &[Name], before: &[Con], con: &Con) -> bool
 pub fn is_table(cons: &[Con], table: &Table) -> bool
     ensures { IsTrue result ↔ IsTable cons.now table.now }
 {
-    !is_reserved(table.name.as_slice()) && is_width(table.key) && is_usable(cons, table.sort)
+    !is_reserved(table.name.as_slice())
+        && is_sort(DataSort::Bits(table.key))
+        && is_usable(cons, table.sort)
 }
 
 fn are_declared(sorts: &[Name], cons: &[Con]) -> bool

@@ -1,26 +1,14 @@
 //! The sorts of trees, patterns and expressions.
 ghost use Rattle.std.specs.Prelude.{◌≡◌, map, Some, IsTrue, ◌↔◌, if◌then◌else◌};
 ghost use Rattle.sort_term.specs.declared.term.Sort.TheVariants.{Own};
-ghost use Rattle.data_value.specs.Sorts.{same_sort};
 ghost use Rattle.data_value.specs.declared.Value.TheVariants.{One};
 ghost use Rattle.sort_term.specs.Sorted.{is_same, has_sort, have_sorts, con_sort, applied_sort, fitted_sort, data_part, leaf_sort, var_sort, tree_sort, pattern_sort, expr_sort, IsTreeOf, IsPatternOf, IsExprOf};
 
 use crate::rule::{Pattern, RuleExpr, Var};
 use crate::semantics::Con;
 use crate::term::{Sort, Term};
-use data_value::{DataSort, Op, Scalar, Value, is_value, sort_of, value_sort};
+use data_value::{DataSort, Op, Scalar, Value, is_value, same_sort, sort_of, value_sort};
 use sqlite_items::at;
-
-fn is_same_data(a: DataSort, b: DataSort) -> bool
-    ensures { result ≡ same_sort a b }
-{
-    match (a, b) {
-        (DataSort::Bool, DataSort::Bool) => true,
-        (DataSort::Bits(v), DataSort::Bits(w)) => v == w,
-        (DataSort::Map(j, v), DataSort::Map(k, w)) => j == k && v == w,
-        _ => false,
-    }
-}
 
 /// Whether two sorts are one. It takes no memory.
 pub fn is_same_sort(a: Sort, b: Sort) -> bool
@@ -28,7 +16,7 @@ pub fn is_same_sort(a: Sort, b: Sort) -> bool
 {
     match (a, b) {
         (Sort::Own(a), Sort::Own(b)) => a.0 == b.0,
-        (Sort::Plain(a), Sort::Plain(b)) => is_same_data(a, b),
+        (Sort::Plain(a), Sort::Plain(b)) => same_sort(a, b),
         _ => false,
     }
 }
