@@ -18,7 +18,7 @@ use Rattle.sort_term.specs.declared.problem.Problem.{Problem}
 use Rattle.sort_term.specs.Tree.{Tree, Trees, value}
 use Rattle.sort_term.specs.Sorted.{expr_sort}
 use Rattle.sort_term.specs.Stands.{argument_of, is_argument}
-use Rattle.sort_term.specs.Fits.{IsPointOf}
+use Rattle.sort_term.specs.Problems.{IsPointOf}
 use Rattle.sort_term.specs.Relation.{IsPoint, Relates}
 use Rattle.sort_term.specs.RelationLaws.{OneRelation}
 use Rattle.sort_term.proofs.Each.{Each}

@@ -3,7 +3,7 @@ use Rattle.std.specs.Prelude.{◌≡◌, ℕ, [], slice_get, Some}
 use Rattle.sort_term.specs.declared.points.Point.{Point}
 use Rattle.sort_term.specs.declared.problem.Problem.{Problem}
 use Rattle.sort_term.specs.Tree.{Tree, Trees, value}
-use Rattle.sort_term.specs.Sorted.{Fits}
+use Rattle.sort_term.specs.Sorted.{IsValuationOf}
 use Rattle.sort_term.specs.Step.{StepsBy}
 use Rattle.sort_term.specs.Runs.{Succeeds}
 use Rattle.sort_term.specs.StateSets.{IsVoid, IsOutside, RunsLong, Halts}
@@ -15,7 +15,7 @@ IsPoint q k p = slice_get q.points.points k ≡ Some p
 
 -- v gives each variable of the point a value of its sort, and makes the conditions true; the variables' sorts are data sorts, so no constructor is asked for
 pub record Holds (q : Problem) (p : Point) (v : Trees) : Type 0 where
-  pub fits : Fits [] p.vars v
+  pub fits : IsValuationOf [] p.vars v
   pub whens : AllTrue v p.whens
 
 -- (a, b) is a related pair of p under v
