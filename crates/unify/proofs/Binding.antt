@@ -26,7 +26,8 @@ use Rattle.sort_term.proofs.Equations.{times-Bind, pattern_value-Bind}
 use Rattle.sort_term.proofs.NodeTerming.{sorted_valid}
 use Rattle.unify.specs.Binds.{Bound, seen_binds, bound_at, IsBound, AreBinds, AreValid, Agrees, IsNode}
 use Rattle.unify.specs.Places.{pattern_args_in, pattern_at, term_at, ClashIn, ClashSomewhere}
-use Rattle.unify.specs.Meets.{IsCondition, RebindsOnlyScalars, times_bound, AddsEquation, AreJoined, Equals}
+use Rattle.data_value.specs.Truth.{IsCondition}
+use Rattle.unify.specs.Meets.{RebindsOnlyScalars, times_bound, AddsEquation, AreJoined, Equals}
 use Rattle.unify.proofs.Nodes.{data_node, node_sorted, plain_tree, plain_same}
 use Rattle.unify.proofs.Evaluated.{bound_seen, binds_stay}
 

@@ -6,20 +6,20 @@ use Rattle.std.proofs.Math.ListN.{get_or-map}
 use Rattle.data_value.specs.declared.DataSort.{DataSort}
 use Rattle.data_value.specs.declared.Value.{Value}
 use Rattle.sort_term.specs.Tree.{Trees}
-use Rattle.data_value.specs.declared.DataSort.TheVariants.{Bool as BoolSort}
 use Rattle.data_value.specs.Nodes.{Seen, Extends}
 use Rattle.data_value.proofs.Grown.{nodes-kept}
-use Rattle.sort_term.specs.declared.term.Sort.TheVariants.{Plain, Own}
+use Rattle.sort_term.specs.declared.term.Sort.TheVariants.{Own}
 use Rattle.sort_term.specs.declared.term.Term.{Term}
 use Rattle.sort_term.specs.declared.semantics.Con.{Con}
 use Rattle.sort_term.specs.declared.rule.Var.{Var}
 use Rattle.sort_term.specs.System.{System}
 use Rattle.sort_term.specs.NodeTerms.{seen_term}
-use Rattle.sort_term.proofs.NodeTerming.{node_is, term_stays, sorted_valid}
+use Rattle.sort_term.proofs.NodeTerming.{term_stays, sorted_valid}
 use Rattle.unify.specs.declared.matching.Matching.{Matching}
 use Rattle.unify.specs.declared.branch.Branch.{Branch}
 use Rattle.unify.specs.Binds.{Bound, seen_binds, IsBound}
-use Rattle.unify.specs.Meets.{SeenMatching, seen_matching, IsCondition, IsMatching}
+use Rattle.data_value.specs.Truth.{IsCondition}
+use Rattle.unify.specs.Meets.{SeenMatching, seen_matching, IsMatching}
 use Rattle.unify.specs.Matchings.{seen_matchings, IsOfNodes, Binds, GoOn}
 use Rattle.unify.specs.Branches.{SeenBranch, seen_branch, seen_branches, IsBranch}
 use Rattle.unify.proofs.Lists.{all_mapped}
@@ -28,7 +28,7 @@ use Rattle.unify.proofs.Binding.{binds_valid}
 
 -- a condition is a valid node
 pub condition_valid : {N : Type 0} (s : Seen N) → IsCondition s → IsTrue s.valid
-condition_valid s h = (node_is s (Plain BoolSort) h).0
+condition_valid s h = h.valid
 
 -- the nodes of a lawful matching are valid
 pub lawful_nodes : {N : Type 0} (cons : List Con) (vars : List Var) (m : SeenMatching N) → IsMatching cons vars m → IsOfNodes m

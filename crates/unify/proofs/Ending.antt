@@ -21,7 +21,8 @@ use Rattle.sort_term.proofs.Declared.{declares}
 use Rattle.unify.specs.declared.matching.Matching.{Matching}
 use Rattle.unify.specs.Binds.{bound_sort, IsBound, Gives}
 use Rattle.unify.specs.Meets.{SeenMatching, seen_matching, Fulfils}
-use Rattle.unify.specs.Constants.{IsAll}
+use Rattle.data_value.specs.Truth.{IsTruth, all_true}
+use Rattle.unify.proofs.Truths.{all_exact}
 use Rattle.unify.specs.Branches.{SeenBranch, IsBranch, LeadsTo, AreBranches}
 use Rattle.unify.specs.Matchings.{seen_matchings, Binds, BoundBy, Reaches, Started, AllMet, BranchOf, BranchesOf}
 use Rattle.unify.proofs.Lists.{all_mapped}
@@ -44,18 +45,18 @@ module _ (sys : System) (r : Rule) (checked : IsRule sys.cons sys.tables sys.con
     result_some = subst IsSome (sym result_sort) refl
 
     -- the branch of a matching
-    pub branch_made : (s : Seen N) (t : Term (Seen N)) → IsAll m.equations s → Gives sys.cons m.binds r.result t → BranchOf sys r m (record { condition = s; result = t })
+    pub branch_made : (s : Seen N) (t : Term (Seen N)) → IsTruth s (all_true m.equations) → Gives sys.cons m.binds r.result t → BranchOf sys r m (record { condition = s; result = t })
     branch_made s t all gives = record {
       branch = record { condition = all.condition; result = record { is = gives.sorted ∙ result_sort } };
       exact = λ v x. (
         λ l. record {
           valuation = filled v m.binds;
           long = filled_long v m.binds;
-          fulfils = record { agrees = filled_agrees v m.binds; equal = (all.exact v).0 l.holds };
+          fulfils = record { agrees = filled_agrees v m.binds; equal = (all_exact s m.equations all v).0 l.holds };
           result = gives.means v (filled v m.binds) (filled_agrees v m.binds) ∙ l.result;
         },
         λ q. record {
-          holds = (all.exact v).1 q.fulfils.equal;
+          holds = (all_exact s m.equations all v).1 q.fulfils.equal;
           result = sym (gives.means v q.valuation q.fulfils.agrees) ∙ q.result;
         },
       );

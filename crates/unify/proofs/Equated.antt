@@ -18,16 +18,15 @@ use Rattle.data_value.specs.Nodes.{Seen, Extends, AllValid, sorts_of, meanings_o
 use Rattle.data_value.proofs.Grown.{nodes-kept}
 use Rattle.data_value.proofs.OpLemmas.{scalar_values}
 use Rattle.data_value.proofs.TestLemmas.{decides_sort, decides_scalar}
-use Rattle.sort_term.specs.declared.term.Sort.TheVariants.{Plain}
-use Rattle.sort_term.proofs.NodeTerming.{node_is, node_of}
-use Rattle.unify.specs.Meets.{IsCondition, AreTrue, AddsEquation, IsOtherScalar}
+use Rattle.data_value.specs.Truth.{IsCondition, AreTrue}
+use Rattle.unify.specs.Meets.{AddsEquation, IsOtherScalar}
 use Rattle.unify.proofs.Lists.{all_front}
 
 -- conditions are valid nodes
 pub conditions_valid : {N : Type 0} (f : N → Seen N) (es : List N) → All IsCondition (map f es) → AllValid f es
 conditions_valid f [] a = All-nil (λ n. IsTrue (f n).valid)
 conditions_valid f (n ∷ es) a =
-    All-cons (λ m. IsTrue (f m).valid) n es (node_is (f n) (Plain BoolSort) (All-head IsCondition (f n) (map f es) a)).0 (conditions_valid f es (All-tail IsCondition (f n) (map f es) a))
+    All-cons (λ m. IsTrue (f m).valid) n es (All-head IsCondition (f n) (map f es) a).valid (conditions_valid f es (All-tail IsCondition (f n) (map f es) a))
 
 -- and stay as they are where the domain grows
 pub conditions_kept : {N : Type 0} (f g : N → Seen N) → Extends f g → (es : List N) → All IsCondition (map f es) → map g es ≡ map f es
@@ -111,7 +110,7 @@ module _ {N : Type 0} (f : N → Seen N) (variables : List DataSort) (n m u : N)
 
   module _ (g : N → Seen N) (q : N) (made : IsApplied f g Eq args q) where
     pub equation_condition : IsCondition (g q)
-    equation_condition = let e : Some (g q).sort ≡ Some BoolSort = sym made.sort ∙ fits in node_of (g q) BoolSort made.valid (cc)
+    equation_condition = let e : Some (g q).sort ≡ Some BoolSort = sym made.sort ∙ fits in record { valid = made.valid; sort = cc }
 
     equation_means : (v : List Value) → (g q).meaning v ≡ One (Flag (same_scalar (scalar_of ((f n).meaning v)) (scalar_of ((f u).meaning v))))
     equation_means v =

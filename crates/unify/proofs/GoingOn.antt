@@ -21,7 +21,8 @@ use Rattle.sort_term.specs.Tree.{Trees, value, pattern_value}
 use Rattle.sort_term.specs.Stands.{times, times_in}
 use Rattle.sort_term.specs.Step.{Tables, Demanded}
 use Rattle.unify.specs.Binds.{IsBound, Agrees, Gives}
-use Rattle.unify.specs.Meets.{IsCondition, SeenMatching, IsMatching, Fulfils, Equals, Answers}
+use Rattle.data_value.specs.Truth.{IsCondition}
+use Rattle.unify.specs.Meets.{SeenMatching, IsMatching, Fulfils, Equals, Answers}
 use Rattle.unify.specs.Constants.{IsKeyTest, IsTreeTerm}
 use Rattle.unify.specs.Matchings.{Binds, GoOn, ReadsRow, demand_times}
 use Rattle.unify.proofs.Lists.{all_front}

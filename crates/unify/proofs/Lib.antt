@@ -12,7 +12,7 @@ pub mod RowKeys
 pub mod Truths
 pub mod Carried
 pub mod Filled
-pub mod Conjoined
+pub mod KeyTests
 pub mod Lifted
 pub mod Copies
 pub mod GoingOn

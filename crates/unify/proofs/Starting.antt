@@ -20,7 +20,8 @@ use Rattle.sort_term.specs.Stands.{times, let_patterns}
 use Rattle.sort_term.specs.Rules.{IsRule}
 use Rattle.unify.specs.declared.matching.Matching.{Matching}
 use Rattle.unify.specs.Binds.{Bound, seen_binds, bound_at, IsBound}
-use Rattle.unify.specs.Meets.{SeenMatching, seen_matching, IsCondition, IsMatching, Fulfils, Equals, RebindsOnlyScalars, times_bound}
+use Rattle.data_value.specs.Truth.{IsCondition}
+use Rattle.unify.specs.Meets.{SeenMatching, seen_matching, IsMatching, Fulfils, Equals, RebindsOnlyScalars, times_bound}
 use Rattle.unify.specs.Matchings.{Binds, GoOn, BoundBy, Started}
 use Rattle.unify.proofs.Together.{together_same}
 use Rattle.unify.proofs.Evaluated.{not_bound}

@@ -19,7 +19,8 @@ use Rattle.sort_term.specs.Rules.{RepeatsOnlyScalars}
 use Rattle.sort_term.specs.Stands.{times, times_in}
 use Rattle.sort_term.specs.NodeTerms.{seen_term}
 use Rattle.unify.specs.Binds.{Bound, seen_binds, bound_at, IsBound}
-use Rattle.unify.specs.Meets.{IsCondition, AreTrue, SeenMatching, IsMatching, Fulfils, RebindsOnlyScalars, times_bound, AreJoined, AreUnified}
+use Rattle.data_value.specs.Truth.{IsCondition, AreTrue}
+use Rattle.unify.specs.Meets.{SeenMatching, IsMatching, Fulfils, RebindsOnlyScalars, times_bound, AreJoined, AreUnified}
 use Rattle.unify.proofs.Evaluated.{not_bound}
 
 none_at : {N : Type 0} (f : N → Seen N) (n i : ℕ) → bound_at (seen_binds f (replicate n None)) i ≡ None

@@ -12,7 +12,7 @@ use Rattle.sort_term.specs.Tree.{Tree}
 use Rattle.sort_term.specs.Step.{Tables, StepsBy}
 use Rattle.sort_term.specs.NodeTerms.{seen_term, IsTermOf, tree_of}
 use Rattle.unify.specs.declared.branch.Branch.{Branch}
-use Rattle.unify.specs.Meets.{IsCondition}
+use Rattle.data_value.specs.Truth.{IsCondition}
 
 -- a configuration over nodes: a term of the configuration sort, in which the sorts of the nodes count
 abbrev pub IsConfiguration : {N : Type 0} → System → Term (Seen N) → Type 0

@@ -11,12 +11,7 @@ use Rattle.sort_term.specs.declared.semantics.Con.{Con}
 use Rattle.sort_term.specs.Tree.{Tree, Trees}
 use Rattle.sort_term.specs.Sorted.{tree_sort}
 use Rattle.sort_term.specs.NodeTerms.{seen_sort, tree_of}
-use Rattle.unify.specs.Meets.{IsCondition, AreTrue}
-
--- the node is true exactly where all these are
-pub record IsAll {N : Type 0} (nodes : List (Seen N)) (s : Seen N) : Type 0 where
-  pub condition : IsCondition s
-  pub exact : (v : List Value) → (s.meaning v ≡ One (Flag true)) ↔ AreTrue v nodes
+use Rattle.data_value.specs.Truth.{IsCondition}
 
 -- the node is true exactly where the word that the key means has this number
 pub record IsKeyTest {N : Type 0} (variables : List DataSort) (key : Seen N) (number : ℕ) (s : Seen N) : Type 0 where

@@ -1,13 +1,11 @@
 -- What makes a pattern equal to a term over nodes.
 use Rattle.std.specs.Prelude.{◌≡◌, ◌≢◌, ◌↔◌, ◌⊎◌, ℕ, ◌+◌, ◌<◌, Bool, true, false, IsTrue, List, [], ◌∷◌, map, slice_get, Option, Some, None, All}
 use Rattle.data_value.specs.declared.DataSort.{DataSort}
-use Rattle.data_value.specs.declared.DataSort.TheVariants.{Bool as BoolSort}
 use Rattle.data_value.specs.declared.Scalar.{Scalar}
-use Rattle.data_value.specs.declared.Scalar.TheVariants.{Flag}
 use Rattle.data_value.specs.declared.Value.{Value}
-use Rattle.data_value.specs.declared.Value.TheVariants.{One}
 use Rattle.data_value.specs.Nodes.{Seen, IsValuation}
-use Rattle.sort_term.specs.declared.term.Sort.TheVariants.{Plain}
+use Rattle.data_value.specs.Truth.{IsCondition}
+pub use Rattle.data_value.specs.Truth.{AreTrue}
 use Rattle.sort_term.specs.declared.term.Term.{Term}
 use Rattle.sort_term.specs.declared.semantics.Con.{Con}
 use Rattle.sort_term.specs.declared.rule.Var.{Var}
@@ -15,20 +13,12 @@ use Rattle.sort_term.specs.declared.rule.Pattern.{Pattern}
 use Rattle.sort_term.specs.Tree.{Trees, pattern_value}
 use Rattle.sort_term.specs.Signature.{is_scalar_own}
 use Rattle.sort_term.specs.Stands.{times, times_in}
-use Rattle.sort_term.specs.NodeTerms.{node_sort, tree_of}
+use Rattle.sort_term.specs.NodeTerms.{tree_of}
 use Rattle.unify.specs.declared.matching.Matching.{Matching}
 use Rattle.unify.specs.declared.meet.Meet.{Meet}
 use Rattle.unify.specs.declared.meet.Meet.TheVariants.{Apart, Meets}
 use Rattle.unify.specs.Binds.{Bound, seen_binds, bound_at, IsBound, AreBinds, Agrees}
 use Rattle.unify.specs.Places.{ClashSomewhere}
-
--- a node that is valid and of sort bool
-abbrev pub IsCondition : {N : Type 0} → Seen N → Type 0
-IsCondition s = node_sort s ≡ Some (Plain BoolSort)
-
--- all of these nodes mean true where the domain's variables have the values v
-abbrev pub AreTrue : {N : Type 0} → List Value → List (Seen N) → Type 0
-AreTrue v conditions = All (λ s. s.meaning v ≡ One (Flag true)) conditions
 
 -- bound variables and equations, with each node seen as all that it is
 pub record SeenMatching (N : Type 0) : Type 0 where

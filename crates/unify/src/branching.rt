@@ -11,12 +11,12 @@ ghost use Rattle.unify.specs.Branches.{IsConfiguration, AreBranches, seen_branch
 
 use crate::binds::unbound;
 use crate::branch::{Branch, BranchList};
-use crate::constants::conjunction;
 use crate::demands::narrowed;
 use crate::evaluation::evaluate;
 use crate::matching::Matching;
 use crate::matchings::{Matchings, joined};
 use data_value::Domain;
+use data_value::conditions::all;
 use no_memory::NoMemory;
 use sort_term::{Config, Program, Rule, RuleId, Semantics, Side, Term};
 use sqlite_items::Items;
@@ -160,7 +160,7 @@ fn ended<S: Side, D: Domain>(
     ensures same_variables { D.variables d.new ≡ D.variables d.old }
     ensures branch { IfOk result (λ b. BranchOf semantics.now rule.now (seen_matching (D.look d.old) matching.now) (seen_branch (D.look d.new) b)) }
 {
-    let condition = conjunction(alloc, d, matching.equations.as_slice())?;
+    let condition = all(alloc, d, matching.equations.as_slice())?;
     let result = evaluate(alloc, d, semantics, &rule.result, &matching.binds)?;
     Ok(Branch {
         condition,

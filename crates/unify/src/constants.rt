@@ -1,4 +1,4 @@
-// Conjunctions, tests of keys, and terms of constants.
+// Tests of keys, and terms of constants.
 ghost use Rattle.std.specs.Prelude.{◌≡◌, ◌↔◌, ◌<◌, ◌^◌, ℕ, [], ◌∷◌, IfOk, IsSome, All, map};
 ghost use Rattle.data_value.specs.declared.DataSort.TheVariants.{Bits as BitsSort};
 ghost use Rattle.data_value.specs.declared.Value.{Value};
@@ -8,51 +8,13 @@ ghost use Rattle.sort_term.specs.declared.term.Term.TheVariants.{Plain};
 ghost use Rattle.sort_term.specs.declared.term.Sort.TheVariants.{Plain as DataOf};
 ghost use Rattle.sort_term.specs.Sorted.{tree_sort};
 ghost use Rattle.sort_term.specs.NodeTerms.{seen_term, node_sort};
-ghost use Rattle.unify.specs.Meets.{IsCondition, AreTrue};
-ghost use Rattle.unify.specs.Constants.{IsAll, IsKeyTest, IsTreeTerm, AreTreeTerms};
+ghost use Rattle.unify.specs.Constants.{IsKeyTest, IsTreeTerm, AreTreeTerms};
 
 use data_value::{Domain, Op, Scalar, Value};
 use no_memory::NoMemory;
 use sort_term::{Semantics, Side, Term, Terms};
 use sqlite_items::Items;
 use std::alloc::Global;
-
-/// A node that is true exactly where all these are.
-pub(crate) fn conjunction<D: Domain>(
-    alloc: Global,
-    d: &mut D,
-    nodes: &[D::Node],
-) -> Result<D::Node, NoMemory>
-    requires { All IsCondition (map (D.look d.old) nodes.now) }
-    ensures extends { Extends (D.look d.old) (D.look d.new) }
-    ensures same_variables { D.variables d.new ≡ D.variables d.old }
-    ensures all { IfOk result (λ n. IsAll (map (D.look d.old) nodes.now) (D.look d.new n)) }
-{
-    let mut all = d.constant(&Value::One(Scalar::Flag(true)))?;
-    for node in nodes {
-        all = both(alloc, d, all, node)?;
-    }
-    Ok(all)
-}
-
-fn both<D: Domain>(
-    alloc: Global,
-    d: &mut D,
-    first: D::Node,
-    second: &D::Node,
-) -> Result<D::Node, NoMemory>
-    requires first { IsCondition (D.look d.old first) }
-    requires second { IsCondition (D.look d.old second.now) }
-    ensures extends { Extends (D.look d.old) (D.look d.new) }
-    ensures same_variables { D.variables d.new ≡ D.variables d.old }
-    ensures both { IfOk result (λ n. IsAll (D.look d.old first ∷ D.look d.old second.now ∷ []) (D.look d.new n)) }
-{
-    let copy = d.copy(second)?;
-    let mut args = Vec::new(alloc);
-    args.push(first)?;
-    args.push(copy)?;
-    Ok(d.apply(Op::And, args.as_slice())?)
-}
 
 /// A node that is true exactly where a word has this number.
 pub(crate) fn key_test<D: Domain>(

@@ -8,7 +8,8 @@ ghost use Rattle.sort_term.specs.declared.rule.Pattern.TheVariants.{Bind};
 ghost use Rattle.sort_term.specs.Sorted.{pattern_sort, var_sort};
 ghost use Rattle.sort_term.specs.Stands.{times, times_in};
 ghost use Rattle.sort_term.specs.NodeTerms.{seen_term, seen_sort};
-ghost use Rattle.unify.specs.Meets.{seen_matching, IsCondition, IsMatching, RebindsOnlyScalars, IsOtherScalar, AddsEquation, Answers, AnswersAll};
+ghost use Rattle.data_value.specs.Truth.{IsCondition};
+ghost use Rattle.unify.specs.Meets.{seen_matching, IsMatching, RebindsOnlyScalars, IsOtherScalar, AddsEquation, Answers, AnswersAll};
 
 use crate::binds::{Binds, Nodes};
 use crate::copy::copy_term;

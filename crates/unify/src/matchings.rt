@@ -5,7 +5,8 @@ ghost use Rattle.sort_term.specs.Sorted.{pattern_sort};
 ghost use Rattle.sort_term.specs.Stands.{times};
 ghost use Rattle.sort_term.specs.NodeTerms.{seen_term, seen_sort, is_valid_term};
 ghost use Rattle.unify.specs.Binds.{seen_binds, AreValid};
-ghost use Rattle.unify.specs.Meets.{seen_matching, IsCondition, IsMatching, RebindsOnlyScalars, Equals};
+ghost use Rattle.data_value.specs.Truth.{IsCondition};
+ghost use Rattle.unify.specs.Meets.{seen_matching, IsMatching, RebindsOnlyScalars, Equals};
 ghost use Rattle.unify.specs.Matchings.{seen_matchings, IsOfNodes, GoOn, Supposes};
 
 use crate::binds::{Binds, Nodes};

@@ -2,22 +2,23 @@ use Rattle.std.proofs.Common.{◌≡◌, IsSome, All, map, sym, subst}
 use Rattle.sort_term.specs.Sorted.{expr_sort_where}
 use Rattle.sort_term.specs.NodeTerms.{seen_term}
 use Rattle.unify.specs.Binds.{bound_sort, AreValid, Gives}
-use Rattle.unify.specs.Meets.{seen_matching, IsCondition}
-use Rattle.unify.specs.Constants.{IsAll}
+use Rattle.data_value.specs.Truth.{IsCondition}
+use Rattle.unify.specs.Meets.{seen_matching}
+use Rattle.data_value.specs.Truth.{IsTruth, all_true}
 use Rattle.unify.proofs.Evaluated.{binds_stay}
 use Rattle.unify.proofs.Binding.{binds_valid}
 use Rattle.unify.proofs.Carried.{condition_valid}
 use Rattle.unify.proofs.Ending.{result_some, branch_made}
 use Rattle.unify.proofs.branching.ended.Goals as goal
 
-pub conjunction-requires : goal.conjunction-requires
-conjunction-requires g c = subst (λ es. All IsCondition (map (g.D.Domain.look c.args.d.now) es)) (sym c.as_slice.ensures) c.requires.matching.lawful.equations
+pub all-requires : goal.all-requires
+all-requires g c = subst (λ es. All IsCondition (map (g.D.Domain.look c.args.d.now) es)) (sym c.as_slice.ensures) c.requires.matching.lawful.equations
 
 pub evaluate-requires-clause-valid : goal.evaluate-requires-clause-valid
 evaluate-requires-clause-valid g c =
     let look = g.D.Domain.look in
     let old = look c.args.d.now in
-    let now = look c.conjunction.new.d in
+    let now = look c.all.new.d in
     let sys = c.args.semantics.now in
     let r = c.args.rule.now in
     let m = seen_matching old c.args.matching.now in
@@ -29,7 +30,7 @@ pub evaluate-requires-clause-sorted : goal.evaluate-requires-clause-sorted
 evaluate-requires-clause-sorted g c =
     let look = g.D.Domain.look in
     let old = look c.args.d.now in
-    let now = look c.conjunction.new.d in
+    let now = look c.all.new.d in
     let sys = c.args.semantics.now in
     let r = c.args.rule.now in
     let m = seen_matching old c.args.matching.now in
@@ -41,7 +42,7 @@ pub returns-clause-branch : goal.returns-clause-branch
 returns-clause-branch g c =
     let look = g.D.Domain.look in
     let old = look c.args.d.now in
-    let now = look c.conjunction.new.d in
+    let now = look c.all.new.d in
     let sys = c.args.semantics.now in
     let r = c.args.rule.now in
     let m = seen_matching old c.args.matching.now in
@@ -50,7 +51,7 @@ returns-clause-branch g c =
     let next = look c.evaluate.new.d in
     let s = c.in_ok-condition.condition in
     let t = seen_term next c.in_ok-result.«result» in
-    let all : IsAll m.equations (now s) = subst (λ es. IsAll (map old es) (now s)) c.as_slice.ensures c.in_ok-condition.ensures.all in
+    let all : IsTruth (now s) (all_true m.equations) = subst (λ es. IsTruth (now s) (all_true (map old es))) c.as_slice.ensures c.in_ok-condition.ensures.means in
     let same : next s ≡ now s = c.in_ok-result.ensures.extends.keeps s (condition_valid (now s) all.condition) in
     let made = branch_made sys r c.requires.rule m b (now s) t all (subst (λ bs. Gives sys.cons bs r.result t) kept c.in_ok-result.ensures.value) in
     let term = c.new.ensures in

@@ -3,7 +3,7 @@ use Rattle.data_value.specs.Nodes.{IsLawful}
 use Rattle.data_value.specs.declared.DataSort.TheVariants.{Bits as BitsSort}
 use Rattle.data_value.specs.Sorts.{IsSort}
 use Rattle.data_value.proofs.NodeLemmas.{has_sort}
-use Rattle.unify.proofs.Conjoined.{is_sorted, key_stays, test_valid, test_sorted, test_is}
+use Rattle.unify.proofs.KeyTests.{is_sorted, key_stays, test_valid, test_sorted, test_is}
 use Rattle.unify.proofs.constants.key_test.Goals as goal
 
 pub constant-requires : goal.constant-requires

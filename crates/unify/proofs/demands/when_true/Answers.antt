@@ -8,6 +8,7 @@ use Rattle.unify.specs.Matchings.{seen_matchings, IsOfNodes, GoOn, Supposes, dem
 use Rattle.unify.proofs.Nodes.{data_node, plain_sort, plain_tree}
 use Rattle.unify.proofs.Binding.{binds_valid}
 use Rattle.unify.proofs.Carried.{lawful_nodes, matching_stays, condition_valid}
+use Rattle.unify.proofs.KeyTests.{condition_from}
 use Rattle.unify.proofs.Readied.{when_sort, when_some}
 use Rattle.unify.proofs.GoingOn.{when_on, when_off}
 use Rattle.unify.proofs.demands.when_true.Goals as goal
@@ -38,7 +39,7 @@ supposed-requires-clause-node g c =
     let vars = c.args.vars.now in
     let m = seen_matching old c.args.matching.now in
     let lawful = c.requires.matching in
-    sym (plain_sort cons now c.plain_node.result.now) ∙ ap (λ t. seen_sort cons (seen_term now t)) (sym c.plain_node.ensures) ∙ c.in_ok-term.ensures.value.sorted ∙ when_sort cons tables vars m lawful c.args.condition.now c.requires.ready
+    condition_from (now c.plain_node.result.now) (sym (plain_sort cons now c.plain_node.result.now) ∙ ap (λ t. seen_sort cons (seen_term now t)) (sym c.plain_node.ensures) ∙ c.in_ok-term.ensures.value.sorted ∙ when_sort cons tables vars m lawful c.args.condition.now c.requires.ready)
 
 pub supposed-requires-clause-matching : goal.supposed-requires-clause-matching
 supposed-requires-clause-matching g c =
@@ -64,7 +65,7 @@ returns-in-Some-clause-matchings g c =
     let kept = matching_stays old now c.in_ok-term.ensures.extends c.args.matching.now (lawful_nodes cons vars m lawful) in
     let node = c.plain_node.result.now in
     let e = c.args.condition.now in
-    let condition = sym (plain_sort cons now node) ∙ ap (λ t. seen_sort cons (seen_term now t)) (sym c.plain_node.ensures) ∙ c.in_ok-term.ensures.value.sorted ∙ when_sort cons tables vars m lawful e c.requires.ready in
+    let condition = condition_from (now node) (sym (plain_sort cons now node) ∙ ap (λ t. seen_sort cons (seen_term now t)) (sym c.plain_node.ensures) ∙ c.in_ok-term.ensures.value.sorted ∙ when_sort cons tables vars m lawful e c.requires.ready) in
     let more = rw c.in-Some.is at c.in_ok-more.ensures in
     subst (λ ms. GoOn cons vars (g.D.Domain.variables c.args.d.now) m (demand_times (When e)) (λ v w. Demanded c.args.program.now w (When e)) (seen_matchings now ms)) (sym (c.in_ok-push-in-Some.ensures.ok ∙ ap (λ ms. ms ++ c.in-Some.more ∷ []) c.new-matchings.ensures))
     (when_on cons vars (g.D.Domain.variables c.args.d.now) c.args.program.now e m lawful (now node) condition (λ v w a. c.in_ok-term.ensures.value.means v w a ∙ ap (λ t. tree_of v (seen_term now t)) c.plain_node.ensures ∙ plain_tree now v node) (seen_matching now c.in-Some.more) (subst (λ x. Supposes now (now node) x (Some c.in-Some.more)) kept more))
@@ -80,7 +81,7 @@ returns-clause-matchings g c =
     let lawful = c.requires.matching in
     let node = c.plain_node.result.now in
     let e = c.args.condition.now in
-    let condition = sym (plain_sort cons now node) ∙ ap (λ t. seen_sort cons (seen_term now t)) (sym c.plain_node.ensures) ∙ c.in_ok-term.ensures.value.sorted ∙ when_sort cons tables vars m lawful e c.requires.ready in
+    let condition = condition_from (now node) (sym (plain_sort cons now node) ∙ ap (λ t. seen_sort cons (seen_term now t)) (sym c.plain_node.ensures) ∙ c.in_ok-term.ensures.value.sorted ∙ when_sort cons tables vars m lawful e c.requires.ready) in
     let off = rw c.in-None.is at c.in_ok-more.ensures in
     subst (λ ms. GoOn cons vars (g.D.Domain.variables c.args.d.now) m (demand_times (When e)) (λ v w. Demanded c.args.program.now w (When e)) (seen_matchings now ms)) (sym c.new.ensures)
     (when_off cons vars (g.D.Domain.variables c.args.d.now) c.args.program.now e m lawful (now node) condition (λ v w a. c.in_ok-term.ensures.value.means v w a ∙ ap (λ t. tree_of v (seen_term now t)) c.plain_node.ensures ∙ plain_tree now v node)

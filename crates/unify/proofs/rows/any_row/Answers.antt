@@ -10,7 +10,7 @@ use Rattle.sort_term.specs.NodeTerms.{node_sort}
 use Rattle.unify.specs.Meets.{seen_matching, IsMatching, RebindsOnlyScalars}
 use Rattle.unify.specs.Matchings.{seen_matchings, GoOn, ReadsRow, IsRowFor}
 use Rattle.unify.proofs.Carried.{lawful_nodes, matching_stays, going_on_nodes, appended}
-use Rattle.unify.proofs.Conjoined.{is_sorted}
+use Rattle.unify.proofs.KeyTests.{is_sorted}
 use Rattle.unify.proofs.GoingOn.{go_on_from, rows_more, no_rows}
 use Rattle.unify.proofs.rows.any_row.Goals as goal
 
