@@ -78,9 +78,9 @@ module _ {N : Type 0} (f g : N → Seen N) (x : Extends f g) where
         ap (λ s. s ∷ seen_branches g bs) (branch_stays b (All-head (IsBranch sys) (seen_branch f b) (seen_branches f bs) a))
         ∙ ap (λ ss. seen_branch f b ∷ ss) (branches_stay bs (All-tail (IsBranch sys) (seen_branch f b) (seen_branches f bs) a))
 
-    pub branch_pushed : (old new : List (Branch S N)) (b : Branch S N) → All (IsBranch sys) (seen_branches f old) → new ≡ old ++ b ∷ [] → seen_branches g new ≡ seen_branches f old ++ seen_branch g b ∷ []
-    branch_pushed old new b a e =
-        ap (seen_branches g) e ∙ map-append (seen_branch g) old (b ∷ []) ∙ ap (λ ss. ss ++ seen_branch g b ∷ []) (branches_stay old a)
+    pub branches_appended : (old more new : List (Branch S N)) → All (IsBranch sys) (seen_branches f old) → new ≡ old ++ more → seen_branches g new ≡ seen_branches f old ++ seen_branches g more
+    branches_appended old more new a e =
+        ap (seen_branches g) e ∙ map-append (seen_branch g) old more ∙ ap (λ ss. ss ++ seen_branches g more) (branches_stay old a)
 
 -- what stands at a place of a list, seen
 pub seen_at : {X Y : Type 0} (f : X → Y) (xs : List X) (i : ℕ) (x : X) → i < length xs → x ≡ get_or xs i x → f x ≡ get_or (map f xs) i (f x)

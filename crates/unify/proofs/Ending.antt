@@ -1,8 +1,10 @@
 -- Branches of matchings, and the steps of a rule.
-use Rattle.std.proofs.Common.{arith, ◌≡◌, ℕ, ◌+◌, ◌<◌, List, [], ◌∷◌, ◌++◌, length, take, get_or, slice_get, Some, IsSome, All, refl, sym, ◌∙◌, subst, ◌⊎◌, inl, inr}
-use Rattle.std.specs.Prelude.{Any}
+use Rattle.std.proofs.Common.{arith, ◌≡◌, ℕ, ◌+◌, ◌<◌, List, [], ◌∷◌, ◌++◌, length, take, get_or, slice_get, Bool, true, Option, Some, None, IsSome, All, refl, sym, ap, false, ◌∙◌, subst, ◌⊎◌, inl, inr}
+use Rattle.std.specs.Prelude.{Any, IfSome, MatchOption}
+use Rattle.std.specs.Option.{option_eq}
+use mathlib.Core.Bool.{beq}
 use Rattle.std.proofs.lemmas.List.{take_all}
-use Rattle.std.proofs.lemmas.List.Elements.{All-nil, All-push}
+use Rattle.std.proofs.lemmas.List.Elements.{All-nil, All-cons, All-append}
 use Rattle.data_value.specs.declared.DataSort.{DataSort}
 use Rattle.data_value.specs.declared.Value.{Value}
 use Rattle.data_value.specs.Nodes.{Seen, IsLawful, IsValuation}
@@ -21,10 +23,11 @@ use Rattle.sort_term.proofs.Declared.{declares}
 use Rattle.unify.specs.declared.matching.Matching.{Matching}
 use Rattle.unify.specs.Binds.{bound_sort, IsBound, Gives}
 use Rattle.unify.specs.Meets.{SeenMatching, seen_matching, Fulfils}
-use Rattle.data_value.specs.Truth.{IsTruth, all_true}
+use Rattle.data_value.specs.Truth.{truth, all_true, IsTruth, IsKnownAs}
+use Rattle.data_value.specs.Values.{flag_of, scalar_of}
 use Rattle.unify.proofs.Truths.{all_exact}
 use Rattle.unify.specs.Branches.{SeenBranch, IsBranch, LeadsTo, AreBranches}
-use Rattle.unify.specs.Matchings.{seen_matchings, Binds, BoundBy, Reaches, Started, AllMet, BranchOf, BranchesOf}
+use Rattle.unify.specs.Matchings.{seen_matchings, Binds, BoundBy, Reaches, Started, AllMet, BranchesOf}
 use Rattle.unify.proofs.Lists.{all_mapped}
 use Rattle.unify.proofs.Anys.{any_none, any_one, any_here, any_left, any_right, any_split, any_more, any_among, any_map}
 use Rattle.unify.proofs.Filled.{filled, filled_agrees, filled_long, agreeing_fits, sort_bound}
@@ -44,23 +47,51 @@ module _ (sys : System) (r : Rule) (checked : IsRule sys.cons sys.tables sys.con
     pub result_some : IsSome (expr_sort_where sys.cons (bound_sort sys.cons m.binds) r.result)
     result_some = subst IsSome (sym result_sort) refl
 
-    -- the branch of a matching
-    pub branch_made : (s : Seen N) (t : Term (Seen N)) → IsTruth s (all_true m.equations) → Gives sys.cons m.binds r.result t → BranchOf sys r m (record { condition = s; result = t })
-    branch_made s t all gives = record {
-      branch = record { condition = all.condition; result = record { is = gives.sorted ∙ result_sort } };
-      exact = λ v x. (
-        λ l. record {
-          valuation = filled v m.binds;
-          long = filled_long v m.binds;
-          fulfils = record { agrees = filled_agrees v m.binds; equal = (all_exact s m.equations all v).0 l.holds };
-          result = gives.means v (filled v m.binds) (filled_agrees v m.binds) ∙ l.result;
-        },
-        λ q. record {
-          holds = (all_exact s m.equations all v).1 q.fulfils.equal;
-          result = sym (gives.means v q.valuation q.fulfils.agrees) ∙ q.result;
-        },
-      );
-    }
+    module _ (made : SeenBranch N) (all : IsTruth made.condition (all_true m.equations)) (gives : Gives sys.cons m.binds r.result made.result) where
+      reached : (v : List Value) (t : Tree) → LeadsTo v t made → Reaches v r.result t m
+      reached v t l = record {
+        valuation = filled v m.binds;
+        long = filled_long v m.binds;
+        fulfils = record { agrees = filled_agrees v m.binds; equal = (all_exact made.condition m.equations all v).0 l.holds };
+        result = gives.means v (filled v m.binds) (filled_agrees v m.binds) ∙ l.result;
+      }
+
+      led : (v : List Value) (t : Tree) → Reaches v r.result t m → LeadsTo v t made
+      led v t q = record {
+        holds = (all_exact made.condition m.equations all v).1 q.fulfils.equal;
+        result = sym (gives.means v q.valuation q.fulfils.agrees) ∙ q.result;
+      }
+
+      -- the branch of a matching
+      pub branch_made : ¬ IsKnownAs false made.condition → BranchesOf sys r (m ∷ []) (made ∷ [])
+      branch_made live = record {
+        each = All-cons (IsBranch sys) made [] (record { condition = all.condition; live = live; result = record { is = gives.sorted ∙ result_sort } }) (All-nil (IsBranch sys));
+        exact = λ v t. (
+          λ l. any_here (Reaches v r.result t) m [] (reached v t (any_one (LeadsTo v t) made l)),
+          λ q. any_here (LeadsTo v t) made [] (led v t (any_one (Reaches v r.result t) m q)),
+        );
+      }
+
+-- a matching whose equations are together false has none
+pub branch_dead : {N : Type 0} (sys : System) (r : Rule) (m : SeenMatching N) (s : Seen N) → IsTruth s (all_true m.equations) → ((v : List Value) → truth s v ≡ false) → BranchesOf sys r (m ∷ []) []
+branch_dead {N} sys r m s all dead = record {
+  each = All-nil (IsBranch {N = N} sys);
+  exact = λ v t. (
+    λ a. absurd (any_none (LeadsTo {N = N} v t) a),
+    λ q. let holds = (all_exact s m.equations all v).1 (any_one (Reaches v r.result t) m q).fulfils.equal in absurd (let e = sym (dead v) ∙ ap (λ y. flag_of (scalar_of y)) holds in cc),
+  );
+}
+
+-- what the test of a condition tells
+pub known_false : {N : Type 0} (s : Seen N) (o : Option Bool) (test : Bool) → IfSome o (λ b. (v : List Value) → truth s v ≡ b) → test ≡ option_eq beq o (Some false) → test ≡ true → (v : List Value) → truth s v ≡ false
+known_false s None test means is passes = absurd (cc)
+known_false s (Some true) test means is passes = absurd (cc)
+known_false s (Some false) test means is passes = means
+
+pub not_known_false : {N : Type 0} (s : Seen N) (o : Option Bool) (test : Bool) → MatchOption o (s.known ≡ None) (λ b. IsKnownAs b s) → test ≡ option_eq beq o (Some false) → test ≡ false → ¬ IsKnownAs false s
+not_known_false s None test known is fails = λ h. cc
+not_known_false s (Some true) test known is fails = λ h. cc
+not_known_false s (Some false) test known is fails = absurd (cc)
 
 -- no matching, and one more
 pub branches_none : {N : Type 0} (sys : System) (r : Rule) → BranchesOf {N = N} sys r [] []
@@ -69,19 +100,19 @@ branches_none {N} sys r = record {
   exact = λ v t. (λ a. absurd (any_none (LeadsTo {N = N} v t) a), λ a. absurd (any_none (Reaches {N = N} v r.result t) a));
 }
 
-pub branches_more : {N : Type 0} (sys : System) (r : Rule) (ms : List (SeenMatching N)) (i : ℕ) (m : SeenMatching N) (bs : List (SeenBranch N)) (b : SeenBranch N) → i < length ms → m ≡ get_or ms i m → BranchesOf sys r (take i ms) bs → BranchOf sys r m b → BranchesOf sys r (take (i + 1) ms) (bs ++ b ∷ [])
-branches_more sys r ms i m bs b l e a h = record {
-  each = All-push (IsBranch sys) bs b a.each h.branch;
-  exact = λ v t. (λ x. (any_more (Reaches v r.result t) ms i m l e).1 (to v t (any_split (LeadsTo v t) bs (b ∷ []) x)), λ x. from v t ((any_more (Reaches v r.result t) ms i m l e).0 x));
+pub branches_more : {N : Type 0} (sys : System) (r : Rule) (ms : List (SeenMatching N)) (i : ℕ) (m : SeenMatching N) (bs cs : List (SeenBranch N)) → i < length ms → m ≡ get_or ms i m → BranchesOf sys r (take i ms) bs → BranchesOf sys r (m ∷ []) cs → BranchesOf sys r (take (i + 1) ms) (bs ++ cs)
+branches_more sys r ms i m bs cs l e a h = record {
+  each = All-append (IsBranch sys) bs cs a.each h.each;
+  exact = λ v t. (λ x. (any_more (Reaches v r.result t) ms i m l e).1 (to v t (any_split (LeadsTo v t) bs cs x)), λ x. from v t ((any_more (Reaches v r.result t) ms i m l e).0 x));
 }
   where
-    to : (v : List Value) (t : Tree) → Any (LeadsTo v t) bs ⊎ Any (LeadsTo v t) (b ∷ []) → Any (Reaches v r.result t) (take i ms) ⊎ Reaches v r.result t m
+    to : (v : List Value) (t : Tree) → Any (LeadsTo v t) bs ⊎ Any (LeadsTo v t) cs → Any (Reaches v r.result t) (take i ms) ⊎ Reaches v r.result t m
     to v t (inl x) = inl ((a.exact v t).0 x)
-    to v t (inr x) = inr ((h.exact v t).0 (any_one (LeadsTo v t) b x))
+    to v t (inr x) = inr (any_one (Reaches v r.result t) m ((h.exact v t).0 x))
 
-    from : (v : List Value) (t : Tree) → Any (Reaches v r.result t) (take i ms) ⊎ Reaches v r.result t m → Any (LeadsTo v t) (bs ++ b ∷ [])
-    from v t (inl x) = any_left (LeadsTo v t) bs (b ∷ []) ((a.exact v t).1 x)
-    from v t (inr x) = any_right (LeadsTo v t) bs (b ∷ []) (any_here (LeadsTo v t) b [] ((h.exact v t).1 x))
+    from : (v : List Value) (t : Tree) → Any (Reaches v r.result t) (take i ms) ⊎ Reaches v r.result t m → Any (LeadsTo v t) (bs ++ cs)
+    from v t (inl x) = any_left (LeadsTo v t) bs cs ((a.exact v t).1 x)
+    from v t (inr x) = any_right (LeadsTo v t) bs cs ((h.exact v t).1 (any_here (Reaches v r.result t) m [] x))
 
 -- the branches of a rule are those of the matchings in which its head is equal to the configuration and all demands are met
 module _ {N : Type 0} (look : N → Seen N) (variables : List DataSort) (laws : IsLawful look variables) (sys : System) (tables : Tables) (n : ℕ) (r : Rule) (there : slice_get sys.rules n ≡ Some r) (checked : IsRule sys.cons sys.tables sys.config r) (s : Term (Seen N)) (first : List (SeenMatching N)) (ms : List (Matching N)) (started : Started sys variables r s first) (met : AllMet sys tables variables r (length r.demands) first (seen_matchings look ms)) (bs : List (SeenBranch N)) (ended : BranchesOf sys r (seen_matchings look ms) bs) where

@@ -1,5 +1,5 @@
 -- The branches of a rule.
-use Rattle.std.specs.Prelude.{◌≡◌, ◌↔◌, ℕ, true, List, map, All, Any}
+use Rattle.std.specs.Prelude.{◌≡◌, ◌↔◌, ℕ, true, false, List, map, All, Any}
 use Rattle.data_value.specs.declared.DataSort.{DataSort}
 use Rattle.data_value.specs.declared.Scalar.TheVariants.{Flag}
 use Rattle.data_value.specs.declared.Value.{Value}
@@ -12,7 +12,7 @@ use Rattle.sort_term.specs.Tree.{Tree}
 use Rattle.sort_term.specs.Step.{Tables, StepsBy}
 use Rattle.sort_term.specs.NodeTerms.{seen_term, IsTermOf, tree_of}
 use Rattle.unify.specs.declared.branch.Branch.{Branch}
-use Rattle.data_value.specs.Truth.{IsCondition}
+use Rattle.data_value.specs.Truth.{IsCondition, IsKnownAs}
 
 -- a configuration over nodes: a term of the configuration sort, in which the sorts of the nodes count
 abbrev pub IsConfiguration : {N : Type 0} → System → Term (Seen N) → Type 0
@@ -29,9 +29,10 @@ seen_branch look b = record { condition = look b.condition; result = seen_term l
 abbrev pub seen_branches : {S N : Type 0} → (N → Seen N) → List (Branch S N) → List (SeenBranch N)
 seen_branches look branches = map (seen_branch look) branches
 
--- a branch's condition is a node of sort bool, and its result a configuration
+-- a branch's condition is a node of sort bool that isn't known to be false, and its result a configuration
 pub record IsBranch {N : Type 0} (sys : System) (b : SeenBranch N) : Type 0 where
   pub condition : IsCondition b.condition
+  pub live : ¬ IsKnownAs false b.condition
   pub result : IsConfiguration sys b.result
 
 -- where the domain's variables have the values v, the branch's condition is true and its result means t

@@ -104,12 +104,7 @@ pub record AllMet {N : Type 0} (sys : System) (tables : Tables) (variables : Lis
   pub each : AreAfter sys r k new
   pub together : Together variables new (λ v w. Any (Fulfils v w) old × All (Demanded tables w) (take k r.demands))
 
--- the branch of a matching: it leads exactly to what the rule's result is under the valuations that fulfil the matching
-pub record BranchOf {N : Type 0} (sys : System) (r : Rule) (m : SeenMatching N) (b : SeenBranch N) : Type 0 where
-  pub branch : IsBranch sys b
-  pub exact : (v : List Value) (t : Tree) → LeadsTo v t b ↔ Reaches v r.result t m
-
--- the branches of matchings
+-- the branches of matchings: they lead exactly to what the rule's result is under the valuations that fulfil one of these
 pub record BranchesOf {N : Type 0} (sys : System) (r : Rule) (ms : List (SeenMatching N)) (bs : List (SeenBranch N)) : Type 0 where
   pub each : All (IsBranch sys) bs
   pub exact : (v : List Value) (t : Tree) → Any (LeadsTo v t) bs ↔ Any (Reaches v r.result t) ms

@@ -1,13 +1,13 @@
 // The branches of a rule.
-ghost use Rattle.std.specs.Prelude.{◌≡◌, ◌↔◌, ◌+◌, ◌<◌, IfOk, Any, All, List, length, slice_get, Some};
+ghost use Rattle.std.specs.Prelude.{◌≡◌, ◌↔◌, [], ◌∷◌, ◌+◌, ◌<◌, IfOk, Any, All, List, length, slice_get, Some};
 ghost use Rattle.data_value.specs.declared.Value.{Value};
 ghost use Rattle.data_value.specs.Nodes.{Extends, IsValuation};
 ghost use Rattle.sort_term.specs.Problems.{IsProgram};
 ghost use Rattle.sort_term.specs.Rules.{IsRule};
 ghost use Rattle.sort_term.specs.NodeTerms.{seen_term};
 ghost use Rattle.unify.specs.Meets.{seen_matching, Fulfils, Equals};
-ghost use Rattle.unify.specs.Matchings.{seen_matchings, AreAfter, BranchOf, BranchesOf, Next, Started, AllMet, Binds, BoundBy};
-ghost use Rattle.unify.specs.Branches.{IsConfiguration, AreBranches, seen_branch, seen_branches};
+ghost use Rattle.unify.specs.Matchings.{seen_matchings, AreAfter, BranchesOf, Next, Started, AllMet, Binds, BoundBy};
+ghost use Rattle.unify.specs.Branches.{IsConfiguration, AreBranches, seen_branches};
 
 use crate::binds::unbound;
 use crate::branch::{Branch, BranchList};
@@ -16,7 +16,7 @@ use crate::evaluation::evaluate;
 use crate::matching::Matching;
 use crate::matchings::{Matchings, joined};
 use data_value::Domain;
-use data_value::conditions::all;
+use data_value::conditions::{all, known_truth};
 use no_memory::NoMemory;
 use sort_term::{Config, Program, Rule, RuleId, Semantics, Side, Term};
 use sqlite_items::Items;
@@ -29,9 +29,9 @@ mod tests;
 /// semantics, and the configuration is a term of valid nodes which by their sorts is of the configuration sort.
 ///
 /// Under every valuation of the domain's variables, the rule's steps from the configuration's value are exactly those to the
-/// values of the results of the branches whose condition is true. The conditions are nodes of sort bool and the results are
-/// configurations, in the domain as it is after the call; its variables stay as they are. So where a table is read at a key
-/// that isn't known, there is a branch for each row that some valuation reads.
+/// values of the results of the branches whose condition is true. The conditions are nodes of sort bool, none of them known to
+/// be false, and the results are configurations, in the domain as it is after the call; its variables stay as they are. So
+/// where a table is read at a key that isn't known, there is a branch for each row that some valuation reads.
 pub fn branches<S: Side, D: Domain>(
     alloc: Global,
     d: &mut D,
@@ -140,30 +140,35 @@ fn finished<S: Side, D: Domain>(
 {
     let mut branches = Items::new(alloc);
     for matching in matchings {
-        let made = ended(alloc, d, semantics, rule, matching)?;
-        branches.push(made)?;
+        let more = ended(alloc, d, semantics, rule, matching)?;
+        branches.append(more)?;
     }
     Ok(branches)
 }
 
-// The branch of a matching.
+// The branch of a matching; none where its condition is known to be false.
 fn ended<S: Side, D: Domain>(
     alloc: Global,
     d: &mut D,
     semantics: &Semantics<S>,
     rule: &Rule,
     matching: &Matching<D::Node>,
-) -> Result<Branch<S, D::Node>, NoMemory>
+) -> Result<BranchList<S, D::Node>, NoMemory>
     requires rule { IsRule semantics.now.cons semantics.now.tables semantics.now.config rule.now }
     requires matching { Binds semantics.now.cons rule.now.vars (BoundBy rule.now (length rule.now.demands)) (seen_matching (D.look d.old) matching.now) }
     ensures extends { Extends (D.look d.old) (D.look d.new) }
     ensures same_variables { D.variables d.new ≡ D.variables d.old }
-    ensures branch { IfOk result (λ b. BranchOf semantics.now rule.now (seen_matching (D.look d.old) matching.now) (seen_branch (D.look d.new) b)) }
+    ensures branches { IfOk result (λ bs. BranchesOf semantics.now rule.now (seen_matching (D.look d.old) matching.now ∷ []) (seen_branches (D.look d.new) bs)) }
 {
     let condition = all(alloc, d, matching.equations.as_slice())?;
+    if known_truth(d, &condition) == Some(false) {
+        return Ok(Items::new(alloc)); // Under no valuation is it true.
+    }
     let result = evaluate(alloc, d, semantics, &rule.result, &matching.binds)?;
-    Ok(Branch {
+    let mut branches = Items::new(alloc);
+    branches.push(Branch {
         condition,
         result: Config::new(result),
-    })
+    })?;
+    Ok(branches)
 }

@@ -1,4 +1,4 @@
-use Rattle.std.proofs.Common.{◌≡◌, IsSome, All, map, sym, subst}
+use Rattle.std.proofs.Common.{◌≡◌, [], ◌∷◌, IsSome, All, map, sym, subst}
 use Rattle.sort_term.specs.Sorted.{expr_sort_where}
 use Rattle.sort_term.specs.NodeTerms.{seen_term}
 use Rattle.unify.specs.Binds.{bound_sort, AreValid, Gives}
@@ -7,8 +7,10 @@ use Rattle.unify.specs.Meets.{seen_matching}
 use Rattle.data_value.specs.Truth.{IsTruth, all_true}
 use Rattle.unify.proofs.Evaluated.{binds_stay}
 use Rattle.unify.proofs.Binding.{binds_valid}
-use Rattle.unify.proofs.Carried.{condition_valid}
-use Rattle.unify.proofs.Ending.{result_some, branch_made}
+use Rattle.data_value.proofs.Grown.{extends-both}
+use Rattle.unify.specs.Branches.{SeenBranch, seen_branches}
+use Rattle.unify.specs.Matchings.{BranchesOf}
+use Rattle.unify.proofs.Ending.{result_some, branch_made, branch_dead, known_false, not_known_false}
 use Rattle.unify.proofs.branching.ended.Goals as goal
 
 pub all-requires : goal.all-requires
@@ -38,21 +40,41 @@ evaluate-requires-clause-sorted g c =
     let kept = binds_stay old now c.in_ok-condition.ensures.extends c.args.matching.now.binds (binds_valid sys.cons r.vars m.binds b.lawful.binds) in
     subst (λ bs. IsSome (expr_sort_where sys.cons (bound_sort sys.cons bs) r.result)) (sym kept) (result_some sys r c.requires.rule m b)
 
-pub returns-clause-branch : goal.returns-clause-branch
-returns-clause-branch g c =
+pub returns-then-eq-clause-branches : goal.returns-then-eq-clause-branches
+returns-then-eq-clause-branches g c =
     let look = g.D.Domain.look in
     let old = look c.args.d.now in
     let now = look c.all.new.d in
     let sys = c.args.semantics.now in
     let r = c.args.rule.now in
     let m = seen_matching old c.args.matching.now in
+    let s = c.in_ok-condition.condition in
+    let all : IsTruth (now s) (all_true m.equations) = subst (λ es. IsTruth (now s) (all_true (map old es))) c.as_slice.ensures c.in_ok-condition.ensures.means in
+    subst (λ bs. BranchesOf sys r (m ∷ []) (seen_branches now bs)) (sym c.new.ensures)
+    (branch_dead sys r m (now s) all (known_false (now s) c.known_truth.result c.eq.result c.known_truth.ensures.means c.eq.ensures c.if-eq.true))
+
+pub returns-in_err-push-clause-extends : goal.returns-in_err-push-clause-extends
+returns-in_err-push-clause-extends g c = extends-both _ _ _ c.in_ok-condition.ensures.extends c.in_ok-result.ensures.extends
+
+pub returns-clause-extends : goal.returns-clause-extends
+returns-clause-extends g c = extends-both _ _ _ c.in_ok-condition.ensures.extends c.in_ok-result.ensures.extends
+
+pub returns-clause-branches : goal.returns-clause-branches
+returns-clause-branches g c =
+    let look = g.D.Domain.look in
+    let old = look c.args.d.now in
+    let now = look c.all.new.d in
+    let sys = c.args.semantics.now in
+    let r = c.args.rule.now in
+    let m = seen_matching old c.args.matching.now in
+    let s = c.in_ok-condition.condition in
+    let all : IsTruth (now s) (all_true m.equations) = subst (λ es. IsTruth (now s) (all_true (map old es))) c.as_slice.ensures c.in_ok-condition.ensures.means in
     let b = c.requires.matching in
     let kept = binds_stay old now c.in_ok-condition.ensures.extends c.args.matching.now.binds (binds_valid sys.cons r.vars m.binds b.lawful.binds) in
     let next = look c.evaluate.new.d in
-    let s = c.in_ok-condition.condition in
     let t = seen_term next c.in_ok-result.«result» in
-    let all : IsTruth (now s) (all_true m.equations) = subst (λ es. IsTruth (now s) (all_true (map old es))) c.as_slice.ensures c.in_ok-condition.ensures.means in
-    let same : next s ≡ now s = c.in_ok-result.ensures.extends.keeps s (condition_valid (now s) all.condition) in
-    let made = branch_made sys r c.requires.rule m b (now s) t all (subst (λ bs. Gives sys.cons bs r.result t) kept c.in_ok-result.ensures.value) in
-    let term = c.new.ensures in
-    rw (same, term) made
+    let same : next s ≡ now s = c.in_ok-result.ensures.extends.keeps s all.condition.valid in
+    let live = not_known_false (now s) c.known_truth.result c.eq.result c.known_truth.ensures.known c.eq.ensures c.if-eq.false in
+    let made : SeenBranch _ = record { condition = now s; result = t } in
+    let is = branch_made sys r c.requires.rule m b made all (subst (λ bs. Gives sys.cons bs r.result t) kept c.in_ok-result.ensures.value) live in
+    rw (c.in_ok-push.ensures.ok, c.new-branches.ensures, same, c.new-2.ensures) is

@@ -1,11 +1,11 @@
-use Rattle.std.proofs.Common.{arith, refl, ◌≤◌, ◌+◌, [], length, take, sym, subst, ◌∙◌}
+use Rattle.std.proofs.Common.{arith, refl, ◌≤◌, ◌+◌, [], ◌∷◌, length, take, sym, subst, ◌∙◌}
 use Rattle.std.proofs.lemmas.List.{take_all, length-map}
 use Rattle.std.proofs.lemmas.List.Elements.{All-get_or}
 use Rattle.data_value.proofs.Grown.{extends-both, extends-same}
 use Rattle.unify.specs.Meets.{seen_matching}
-use Rattle.unify.specs.Branches.{seen_branch, seen_branches}
-use Rattle.unify.specs.Matchings.{seen_matchings, Binds, BoundBy, BranchOf, BranchesOf}
-use Rattle.unify.proofs.Carried.{lawful_nodes, matching_stays, branch_pushed, seen_at, seen_below}
+use Rattle.unify.specs.Branches.{seen_branches}
+use Rattle.unify.specs.Matchings.{seen_matchings, Binds, BoundBy, BranchesOf}
+use Rattle.unify.proofs.Carried.{lawful_nodes, matching_stays, branches_appended, seen_at, seen_below}
 use Rattle.unify.proofs.Ending.{branches_none, branches_more}
 use Rattle.unify.proofs.branching.finished.Goals as goal
 
@@ -50,12 +50,13 @@ loop-matching-preserved g c =
     let kept = matching_stays old now c.loop-matching.invariant.extends c.matching-item.result (lawful_nodes sys.cons r.vars m b.lawful) in
     let next = look c.ended.new.d in
     let before = seen_branches now c.loop-matching.branches in
-    let made : BranchOf sys r m (seen_branch next c.in_ok-made.made) = subst (λ x. BranchOf sys r x (seen_branch next c.in_ok-made.made)) kept c.in_ok-made.ensures.branch in
+    let more = seen_branches next c.in_ok-more.more in
+    let made : BranchesOf sys r (m ∷ []) more = subst (λ x. BranchesOf sys r (x ∷ []) more) kept c.in_ok-more.ensures.branches in
     record {
-      extends = extends-both old now next c.loop-matching.invariant.extends c.in_ok-made.ensures.extends;
-      same_variables = c.in_ok-made.ensures.same_variables ∙ c.loop-matching.invariant.same_variables;
-      made = subst (BranchesOf sys r (take (i + 1) olds)) (sym (branch_pushed now next c.in_ok-made.ensures.extends sys c.loop-matching.branches _ c.in_ok-made.made c.loop-matching.invariant.made.each c.in_ok-push.ensures.ok))
-          (branches_more sys r olds i m before (seen_branch next c.in_ok-made.made) il is c.loop-matching.invariant.made made);
+      extends = extends-both old now next c.loop-matching.invariant.extends c.in_ok-more.ensures.extends;
+      same_variables = c.in_ok-more.ensures.same_variables ∙ c.loop-matching.invariant.same_variables;
+      made = subst (BranchesOf sys r (take (i + 1) olds)) (sym (branches_appended now next c.in_ok-more.ensures.extends sys c.loop-matching.branches c.in_ok-more.more _ c.loop-matching.invariant.made.each c.in_ok-append.ensures))
+          (branches_more sys r olds i m before more il is c.loop-matching.invariant.made made);
     }
 
 pub returns-clause-branches : goal.returns-clause-branches
