@@ -24,7 +24,7 @@ use Rattle.sort_term.proofs.Each.{Each}
 use Rattle.sort_term.proofs.Agreeing.{con_same}
 use Rattle.sort_term.proofs.Equations.{value-Var, value-Con, expr_sort-Var, expr_sort-Con, tree_sort-Con, reads-Var, reads-Con, argument_of-Var, argument_of-Lit, argument_of-Op, argument_of-Con}
 use Rattle.sort_term.proofs.Induction.{expr_ind}
-use Rattle.ground_step.specs.Binds.{Bound, Agrees, Narrows}
+use Rattle.ground_step.specs.GroundBinds.{AgreesGround, Restricts}
 use Rattle.ground_step.specs.Ready.{IsKnown}
 use Rattle.ground_step.specs.Fit.{ReadsWithin, is_part, is_part_of, Determines, DeterminesAll}
 use Rattle.ground_step.proofs.Bound.{agrees_at, fill, fill_agrees, fill_at, parts_of}
@@ -47,7 +47,7 @@ any_at i (e ∷ es) zero d l h = or_left (reads i e) _ h
 any_at i (e ∷ es) (suc k) d l h = or_right (reads i e) _ (any_at i es k d (omega arith) h)
 
 -- a variable to which all valuations that agree give one tree is bound to it
-pub is_bound : (bs : Bound) (i : ℕ) (t : Tree) → i < length bs → ((v : Trees) → Agrees bs v → tree_at v i ≡ t) → slice_get bs i ≡ Some (Some t)
+pub is_bound : (bs : List (Option Tree)) (i : ℕ) (t : Tree) → i < length bs → ((v : Trees) → AgreesGround bs v → tree_at v i ≡ t) → slice_get bs i ≡ Some (Some t)
 is_bound bs i t l same = go (slice_get bs i) refl
   where
     other : Tree
@@ -66,7 +66,7 @@ is_bound bs i t l same = go (slice_get bs i) refl
         past (inr y) = let m : length bs ≤ i = y.0 in absurd (omega arith)
 
 -- what is known stays known
-pub stays_known : (cons : List Con) (vars : List Var) (old new : Bound) (i : ℕ) → length new ≡ length old → ((v : Trees) → Agrees new v → Agrees old v) → IsKnown cons vars old i → IsKnown cons vars new i
+pub stays_known : (cons : List Con) (vars : List Var) (old new : List (Option Tree)) (i : ℕ) → length new ≡ length old → ((v : Trees) → AgreesGround new v → AgreesGround old v) → IsKnown cons vars old i → IsKnown cons vars new i
 stays_known cons vars old new i l h k =
     let m = slice_get_within old i (Some k.tree) k.there in
     record { tree = k.tree; there = is_bound new i k.tree (omega arith) (λ v a. sym (agrees_at old v i k.tree (h v a) k.there)); sorted = k.sorted }
@@ -133,7 +133,7 @@ lit_no_part i x t =
     let q : false ≡ true = sym (ap (λ (y : Bool × Bool). y.1) e) ∙ second_of (argument_of i (expr.Lit x)).0 (argument_of i (expr.Lit x)).1 t (ap (λ (y : Bool × Bool). y.0) e) in
     cc
 
-pub determines_var : (old new : Bound) (ok : Bool) (i : ℕ) (t : Tree) → i < length old → Narrows old new ok (λ v. tree_at v i ≡ t) → Determines old new ok (expr.Var i) t
+pub determines_var : (old new : List (Option Tree)) (ok : Bool) (i : ℕ) (t : Tree) → i < length old → Restricts old new ok (λ v. tree_at v i ≡ t) → Determines old new ok (expr.Var i) t
 determines_var old new ok i t l n = record {
   keeps = n.keeps;
   sound = λ v a y. (n.sound v a y).0;
@@ -149,7 +149,7 @@ determines_var old new ok i t l n = record {
       });
 }
 
-pub determines_lit : (bs : Bound) (x : Value) (t : Tree) → Determines bs bs true (expr.Lit x) t
+pub determines_lit : (bs : List (Option Tree)) (x : Value) (t : Tree) → Determines bs bs true (expr.Lit x) t
 determines_lit bs x t = record {
   keeps = refl;
   sound = λ v a y. a;
@@ -157,7 +157,7 @@ determines_lit bs x t = record {
   known = λ y cons vars s h g i part. absurd (lit_no_part i x part);
 }
 
-pub determines_op : (bs : Bound) (op : Op) (es : List RuleExpr) (t : Tree) → Determines bs bs true (expr.Op op es) t
+pub determines_op : (bs : List (Option Tree)) (op : Op) (es : List RuleExpr) (t : Tree) → Determines bs bs true (expr.Op op es) t
 determines_op bs op es t = record {
   keeps = refl;
   sound = λ v a y. a;
@@ -165,7 +165,7 @@ determines_op bs op es t = record {
   known = λ y cons vars s h g i part. absurd (op_no_part cons vars i op es s h part);
 }
 
-pub determines_con : (old new : Bound) (ok : Bool) (k : ConId) (es : List RuleExpr) (ts : Trees) → DeterminesAll old new ok es ts → Determines old new ok (expr.Con k es) (term.Con k ts)
+pub determines_con : (old new : List (Option Tree)) (ok : Bool) (k : ConId) (es : List RuleExpr) (ts : Trees) → DeterminesAll old new ok es ts → Determines old new ok (expr.Con k es) (term.Con k ts)
 determines_con old new ok k es ts d = record {
   keeps = d.keeps;
   sound = d.sound;
@@ -180,7 +180,7 @@ determines_con old new ok k es ts d = record {
 }
 
 -- no valuation gives this value
-pub determines_none : (bs : Bound) (e : RuleExpr) (t : Tree) → ((v : Trees) → ¬ (value v e ≡ t)) → Determines bs bs false e t
+pub determines_none : (bs : List (Option Tree)) (e : RuleExpr) (t : Tree) → ((v : Trees) → ¬ (value v e ≡ t)) → Determines bs bs false e t
 determines_none bs e t h = record {
   keeps = refl;
   sound = λ v a y. a;
@@ -188,10 +188,10 @@ determines_none bs e t h = record {
   known = λ y. absurd (cc);
 }
 
-pub all_none : (bs : Bound) → DeterminesAll bs bs true [] []
+pub all_none : (bs : List (Option Tree)) → DeterminesAll bs bs true [] []
 all_none bs = record { keeps = refl; sound = λ v a y. a; complete = λ v a e. (refl, a); known = λ y cons vars ss h g i part. absurd (cc) }
 
-pub all_apart : (bs : Bound) (es : List RuleExpr) (ts : Trees) → ((v : Trees) → ¬ (map (value v) es ≡ ts)) → DeterminesAll bs bs false es ts
+pub all_apart : (bs : List (Option Tree)) (es : List RuleExpr) (ts : Trees) → ((v : Trees) → ¬ (map (value v) es ≡ ts)) → DeterminesAll bs bs false es ts
 all_apart bs es ts h = record { keeps = refl; sound = λ v a y. a; complete = λ v a e. absurd (h v e); known = λ y. absurd (cc) }
 
 record LastSorts {A B : Type 0} (f : A → Option Sort) (g : B → Option Sort) (es : List A) (ts : List B) (e : A) (t : B) : Type 0 where
@@ -230,7 +230,7 @@ last_part i (x ∷ es) e h = go (is_part i x) refl h (last_part i es e)
         turn (inl y) = inl (ap (λ b. b || is_part_of i es) q ∙ y)
         turn (inr y) = inr y
 
-module _ (old mid new : Bound) where
+module _ (old mid new : List (Option Tree)) where
   all_push : (es : List RuleExpr) (ts : Trees) (e : RuleExpr) (t : Tree) → length es ≡ length ts → DeterminesAll old mid true es ts → Determines mid new true e t → DeterminesAll old new true (es ++ e ∷ []) (ts ++ t ∷ [])
   all_push es ts e t l d k = record {
     keeps = k.keeps ∙ d.keeps;

@@ -193,3 +193,7 @@ run_more p olds news l xs i x e f g m is =
     let pushed : runs_of news ≡ runs_of olds ++ run_of l ∷ [] = ap (λ r. runs_of r) e ∙ map-append run_of olds (l ∷ []) in
     let same : runs_of olds ++ run_of l ∷ [] ≡ with_each p (steps_of (take i xs)) ++ (p.0, p.1 ++ step_of x ∷ []) ∷ [] = cc in
     pushed ∙ same ∙ sym (with_more p (take i xs) x) ∙ ap (λ r. with_each p (steps_of r)) (sym at)
+
+-- the first run alone
+pub one_run : {S : Type 0} (olds news : List (Run S)) (run : Run S) (p : StartedRun) → news ≡ olds ++ run ∷ [] → olds ≡ [] → run_of run ≡ p → runs_of news ≡ p ∷ []
+one_run olds news run p e none is = ap (λ l. runs_of l) (e ∙ ap (λ l. l ++ run ∷ []) none) ∙ ap (λ q. q ∷ []) is

@@ -20,7 +20,7 @@ use Rattle.sort_term.specs.declared.problem.Problem.{Problem}
 use Rattle.sort_term.specs.declared.rule.Var.{Var}
 use Rattle.sort_term.specs.declared.rule.RuleExpr.{RuleExpr}
 use Rattle.sort_term.specs.declared.rule.RuleExpr.TheVariants as expr
-use Rattle.sort_term.specs.Tree.{Tree, Trees, plain_of, value}
+use Rattle.sort_term.specs.Tree.{Tree, Trees, plain_of, tree_at, value}
 use Rattle.sort_term.specs.Sorted.{applied_sort, var_sort, tree_sort, expr_sort}
 use Rattle.sort_term.specs.Signature.{is_plain}
 use Rattle.sort_term.specs.Stands.{is_argument, argument_of}
@@ -34,17 +34,16 @@ use Rattle.sort_term.proofs.Each.{Each}
 use Rattle.sort_term.proofs.Equations.{expr_sort-Var, expr_sort-Lit, expr_sort-Op, expr_sort-Con, tree_sort-Plain, tree_sort-Con, plain_of-Plain}
 use Rattle.sort_term.proofs.GroundTerms.{ground_sort}
 use Rattle.sort_term.proofs.Induction.{expr_ind, term_ind}
-use Rattle.ground_step.specs.Binds.{Bound, Agrees, Narrows}
+use Rattle.ground_step.specs.GroundBinds.{ground_binds, AgreesGround, Restricts}
 use Rattle.ground_step.specs.Ready.{IsKnown, IsReady}
 use Rattle.ground_step.specs.Fit.{ReadsWithin, Determines, IsValueBound, some_plain, plain_trees, IsOnlyFit, RelationIs}
-use Rattle.ground_step.proofs.Bound.{agrees_none, agrees_at, agrees_long}
+use Rattle.ground_step.proofs.Bound.{tree_there, agrees_none, agrees_at, agrees_from, agrees_tail}
 use Rattle.sort_term.proofs.Parts.{con_parts}
 use Rattle.sort_term.proofs.PartSorts.{op_parts_of}
 use Rattle.unify.specs.Binds.{AreBinds}
 use Rattle.unify.proofs.Evaluated.{bound_seen}
 use Rattle.sort_term.proofs.Declared.{declares, fits_each}
 use Rattle.ground_step.proofs.Determined.{or_right, stays_known}
-use Rattle.ground_step.proofs.Evaluated.{nodes, tree_there}
 
 either_true : (a b : Bool) → IsTrue (a || b) → IsTrue a ⊎ IsTrue b
 either_true true b h = inl refl
@@ -79,17 +78,21 @@ var_plain [] i a l = absurd (omega arith)
 var_plain (x ∷ vars) zero a l = let p = plain_is x.sort (All-head (λ y. IsTrue (is_plain y.sort)) x vars a) in (p.0, ap Some p.1)
 var_plain (x ∷ vars) (suc i) a l = var_plain vars i (All-tail (λ y. IsTrue (is_plain y.sort)) x vars a) (omega arith)
 
-agrees_self : (values : List Value) → Agrees (map some_plain values) (plain_trees values)
-agrees_self [] = tt
-agrees_self (x ∷ values) = (refl, agrees_self values)
+self_there : (values : List Value) (i : ℕ) (x : Tree) → slice_get (map some_plain values) i ≡ Some (Some x) → tree_at (plain_trees values) i ≡ x
+self_there [] i x h = absurd (cc)
+self_there (y ∷ values) zero x h = cc
+self_there (y ∷ values) (suc i) x h = self_there values i x h
 
-agrees_only : (values : List Value) (v : Trees) → Agrees (map some_plain values) v → v ≡ plain_trees values
-agrees_only [] [] a = refl
-agrees_only [] (t ∷ v) a = absurd a
-agrees_only (x ∷ values) [] a = absurd a
-agrees_only (x ∷ values) (t ∷ v) a =
-    let e : term.Plain x ≡ t = a.0 in
-    let f : v ≡ plain_trees values = agrees_only values v a.1 in
+agrees_self : (values : List Value) → AgreesGround (map some_plain values) (plain_trees values)
+agrees_self values = agrees_from (map some_plain values) (plain_trees values) (self_there values)
+
+agrees_only : (values : List Value) (v : Trees) → length v ≡ length values → AgreesGround (map some_plain values) v → v ≡ plain_trees values
+agrees_only [] [] l a = refl
+agrees_only [] (t ∷ v) l a = absurd (omega arith)
+agrees_only (x ∷ values) [] l a = absurd (omega arith)
+agrees_only (x ∷ values) (t ∷ v) l a =
+    let e : term.Plain x ≡ t = agrees_at (map some_plain (x ∷ values)) (t ∷ v) 0 (term.Plain x) a refl in
+    let f : v ≡ plain_trees values = agrees_only values v (omega arith) (agrees_tail (some_plain x) (map some_plain values) t v a) in
     cc
 
 -- an expression over no variables is ready
@@ -143,30 +146,30 @@ module _ (q : Problem) (p : Point) (a b : Tree) (checked : IsPointOf q.left q.ri
   right_sorted : IsSome (expr_sort q.right.cons p.vars p.right)
   right_sorted = subst IsSome (sym checked.right_term.is) (search rules)
 
-  abbrev None_bound : Bound
+  abbrev None_bound : List (Option Tree)
   None_bound = replicate (length p.vars) None
 
-  pub left_within : (bs : Bound) → length bs ≡ length p.vars → ReadsWithin (length bs) p.left
+  pub left_within : (bs : List (Option Tree)) → length bs ≡ length p.vars → ReadsWithin (length bs) p.left
   left_within bs e = record { below = λ i h. subst (λ n. i < n) (sym e) (declares q.left.cons p.vars p.left left_sorted i h) }
 
-  pub right_within : (bs : Bound) → length bs ≡ length p.vars → ReadsWithin (length bs) p.right
+  pub right_within : (bs : List (Option Tree)) → length bs ≡ length p.vars → ReadsWithin (length bs) p.right
   right_within bs e = record { below = λ i h. subst (λ n. i < n) (sym e) (declares q.right.cons p.vars p.right right_sorted i h) }
 
-  starts : (v : Trees) → Relates q p v a b → Agrees None_bound v
-  starts v x = subst (λ n. Agrees (replicate n None) v) (fits_long [] p.vars v x.holds.fits) (agrees_none v)
+  starts : (v : Trees) → Relates q p v a b → AgreesGround None_bound v
+  starts v x = agrees_none (length p.vars) v
 
-  pub left_apart : (mid : Bound) → Determines None_bound mid false p.left a → (v : Trees) → ¬ Relates q p v a b
+  pub left_apart : (mid : List (Option Tree)) → Determines None_bound mid false p.left a → (v : Trees) → ¬ Relates q p v a b
   left_apart mid d v x = let h : false ≡ true = (d.complete v (starts v x) x.left).0 in absurd (cc)
 
-  module _ (mid : Bound) (dl : Determines None_bound mid true p.left a) where
-    pub right_apart : (new : Bound) → Determines mid new false p.right b → (v : Trees) → ¬ Relates q p v a b
+  module _ (mid : List (Option Tree)) (dl : Determines None_bound mid true p.left a) where
+    pub right_apart : (new : List (Option Tree)) → Determines mid new false p.right b → (v : Trees) → ¬ Relates q p v a b
     right_apart new d v x = let h : false ≡ true = (d.complete v (dl.complete v (starts v x) x.left).1 x.right).0 in absurd (cc)
 
-    module _ (new : Bound) (dr : Determines mid new true p.right b) where
+    module _ (new : List (Option Tree)) (dr : Determines mid new true p.right b) where
       pub as_many : length new ≡ length p.vars
       as_many = dr.keeps ∙ dl.keeps ∙ length-replicate (length p.vars) None
 
-      agrees : (v : Trees) → Relates q p v a b → Agrees new v
+      agrees : (v : Trees) → Relates q p v a b → AgreesGround new v
       agrees v x = (dr.complete v (dl.complete v (starts v x) x.left).1 x.right).1
 
       to_any : (cons other : List Con) (i : ℕ) → i < length p.vars → IsKnown cons p.vars new i → IsKnown other p.vars new i
@@ -183,7 +186,7 @@ module _ (q : Problem) (p : Point) (a b : Tree) (checked : IsPointOf q.left q.ri
           go (inr h) = to_any q.right.cons cons i m (dr.known refl q.right.cons p.vars (Own q.right.config) checked.right_term.is sb.is i (or_right (argument_of i p.right).0 (argument_of i p.right).1 h))
 
       -- each variable has a tree of its sort
-      all_known : (cons : List Con) → AreBinds cons p.vars (nodes new)
+      all_known : (cons : List Con) → AreBinds cons p.vars (ground_binds new)
       all_known cons = record {
         long = length-map new _ ∙ as_many;
         sorted = λ i t h.
@@ -222,23 +225,24 @@ module _ (q : Problem) (p : Point) (a b : Tree) (checked : IsPointOf q.left q.ri
           (x.0, get_or_from_slice_get new i (Some k.tree) d k.there ∙ ap Some x.1)
 
       -- what a related pair has, no answer no can deny
-      pub pair_apart : (P : Trees → Type 0) → Narrows new new false P → ((v : Trees) → Relates q p v a b → P v) → (v : Trees) → ¬ Relates q p v a b
+      pub pair_apart : (P : Trees → Type 0) → Restricts new new false P → ((v : Trees) → Relates q p v a b → P v) → (v : Trees) → ¬ Relates q p v a b
       pair_apart P n h v x = let no : false ≡ true = (n.complete v (agrees v x) (h v x)).0 in absurd (cc)
 
-      pub only_fit : (values : List Value) → map some_plain values ≡ new → Narrows new new true (λ v. value v p.left ≡ a) → Narrows new new true (λ v. value v p.right ≡ b) → Narrows new new true (λ v. AllTrue v p.whens) → IsOnlyFit q p a b values
+      pub only_fit : (values : List Value) → map some_plain values ≡ new → Restricts new new true (λ v. value v p.left ≡ a) → Restricts new new true (λ v. value v p.right ≡ b) → Restricts new new true (λ v. AllTrue v p.whens) → IsOnlyFit q p a b values
       only_fit values e nl nr nw =
           let v = plain_trees values in
-          let g : Agrees new v = subst (λ bs. Agrees bs v) e (agrees_self values) in
+          let as_values : length values ≡ length p.vars = sym (length-map values some_plain) ∙ ap length e ∙ as_many in
+          let g : AgreesGround new v = subst (λ bs. AgreesGround bs v) e (agrees_self values) in
           record {
             relates = record {
               holds = record {
-                fits = fits_each [] p.vars v (agrees_long new v g ∙ as_many) (λ i j. let k = known [] i j in subst (λ t. tree_sort [] t ≡ var_sort p.vars i) (agrees_at new v i k.tree g k.there) k.sorted);
+                fits = fits_each [] p.vars v (length-map values term.Plain ∙ as_values) (λ i j. let k = known [] i j in subst (λ t. tree_sort [] t ≡ var_sort p.vars i) (agrees_at new v i k.tree g k.there) k.sorted);
                 whens = (nw.sound v g refl).1;
               };
               left = (nl.sound v g refl).1;
               right = (nr.sound v g refl).1;
             };
-            only = λ w x. agrees_only values w (subst (λ bs. Agrees bs w) (sym e) (agrees w x));
+            only = λ w x. agrees_only values w (fits_long [] p.vars w x.holds.fits ∙ sym as_values) (subst (λ bs. AgreesGround bs w) (sym e) (agrees w x));
           }
 
 pub relation_none : (q : Problem) (n : ℕ) (p : Point) (a b : Tree) → IsPoint q n p → ((v : Trees) → ¬ Relates q p v a b) → RelationIs q n a b None
@@ -279,7 +283,7 @@ value_of_bound o t v e =
     let is : t ≡ term.Plain v.0 = cc in
     ap some_plain (ap plain_of is ∙ plain_of-Plain v.0) ∙ sym v.1
 
-pub values_more : (olds news : List Value) (bs : Bound) (i : ℕ) (o : Option Tree) (x : Value) → news ≡ olds ++ x ∷ [] → map some_plain olds ≡ take i bs → some_plain x ≡ o → i < length bs → o ≡ get_or bs i o → map some_plain news ≡ take (i + 1) bs
+pub values_more : (olds news : List Value) (bs : List (Option Tree)) (i : ℕ) (o : Option Tree) (x : Value) → news ≡ olds ++ x ∷ [] → map some_plain olds ≡ take i bs → some_plain x ≡ o → i < length bs → o ≡ get_or bs i o → map some_plain news ≡ take (i + 1) bs
 values_more olds news bs i o x e h s l is =
     let pushed : map some_plain news ≡ map some_plain olds ++ some_plain x ∷ [] = ap (map some_plain) e ∙ map-append some_plain olds (x ∷ []) in
     let at : take (i + 1) bs ≡ take i bs ++ o ∷ [] = take_more bs i o l ∙ ap (λ z. take i bs ++ z ∷ []) (sym is) in

@@ -15,7 +15,7 @@ use Rattle.sort_term.specs.Sorted.{tree_sort, expr_sort}
 use Rattle.sort_term.specs.Stands.{reads, argument_of}
 use Rattle.sort_term.specs.Relation.{IsPoint, Relates, Related}
 use Rattle.ground_step.specs.declared.relation.Fit.{Fit}
-use Rattle.ground_step.specs.Binds.{Bound, Agrees}
+use Rattle.ground_step.specs.GroundBinds.{AgreesGround}
 use Rattle.ground_step.specs.Ready.{IsKnown}
 
 -- values as a valuation
@@ -69,15 +69,15 @@ abbrev pub is_part_of : ℕ → List RuleExpr → Bool
 is_part_of i es = list_any (λ part. part.0 || part.1) (map (argument_of i) es)
 
 -- each valuation that gives e the value t agrees with the new bound variables, and where both are of one sort, these are the parts of e with trees of their sorts; where the answer is no, there is none
-pub record Determines (old new : Bound) (ok : Bool) (e : RuleExpr) (t : Tree) : Type 0 where
+pub record Determines (old new : List (Option Tree)) (ok : Bool) (e : RuleExpr) (t : Tree) : Type 0 where
   pub keeps : length new ≡ length old
-  pub sound : (v : Trees) → Agrees new v → IsTrue ok → Agrees old v
-  pub complete : (v : Trees) → Agrees old v → value v e ≡ t → IsTrue ok × Agrees new v
+  pub sound : (v : Trees) → AgreesGround new v → IsTrue ok → AgreesGround old v
+  pub complete : (v : Trees) → AgreesGround old v → value v e ≡ t → IsTrue ok × AgreesGround new v
   pub known : IsTrue ok → (cons : List Con) (vars : List Var) (s : Sort) → expr_sort cons vars e ≡ Some s → tree_sort cons t ≡ Some s → (i : ℕ) → IsTrue (is_part i e) → IsKnown cons vars new i
 
 -- the same of several expressions
-pub record DeterminesAll (old new : Bound) (ok : Bool) (es : List RuleExpr) (ts : Trees) : Type 0 where
+pub record DeterminesAll (old new : List (Option Tree)) (ok : Bool) (es : List RuleExpr) (ts : Trees) : Type 0 where
   pub keeps : length new ≡ length old
-  pub sound : (v : Trees) → Agrees new v → IsTrue ok → Agrees old v
-  pub complete : (v : Trees) → Agrees old v → map (value v) es ≡ ts → IsTrue ok × Agrees new v
+  pub sound : (v : Trees) → AgreesGround new v → IsTrue ok → AgreesGround old v
+  pub complete : (v : Trees) → AgreesGround old v → map (value v) es ≡ ts → IsTrue ok × AgreesGround new v
   pub known : IsTrue ok → (cons : List Con) (vars : List Var) (ss : List Sort) → map (expr_sort cons vars) es ≡ map Some ss → map (tree_sort cons) ts ≡ map Some ss → (i : ℕ) → IsTrue (is_part_of i es) → IsKnown cons vars new i

@@ -1,5 +1,5 @@
-pub mod Binds
 pub mod Fit
+pub mod GroundBinds
 pub mod Reach
 pub mod Ready
 pub mod Shows

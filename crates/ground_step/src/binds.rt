@@ -1,7 +1,7 @@
 // Variables and the trees that they are bound to.
 ghost use Rattle.std.specs.Prelude.{◌≡◌, ◌<◌, IfOk, None, Some, length, slice_get};
 ghost use Rattle.sort_term.specs.Tree.{tree_at};
-ghost use Rattle.ground_step.specs.Binds.{Narrows};
+ghost use Rattle.ground_step.specs.GroundBinds.{Restricts};
 
 use data_value::Value;
 use no_memory::NoMemory;
@@ -17,7 +17,7 @@ fn bind_new(
     tree: &Term<Value>,
 ) -> Result<bool, NoMemory>
     requires { slice_get binds.old variable ≡ Some None }
-    ensures { IfOk result (λ ok. Narrows binds.old binds.new ok (λ v. tree_at v variable ≡ tree.now)) }
+    ensures { IfOk result (λ ok. Restricts binds.old binds.new ok (λ v. tree_at v variable ≡ tree.now)) }
 {
     let copy = copy_term(alloc, tree)?;
     binds.set(variable, Some(copy));
@@ -32,7 +32,7 @@ pub fn bind(
     tree: &Term<Value>,
 ) -> Result<bool, NoMemory>
     requires { variable < length binds.old }
-    ensures { IfOk result (λ ok. Narrows binds.old binds.new ok (λ v. tree_at v variable ≡ tree.now)) }
+    ensures { IfOk result (λ ok. Restricts binds.old binds.new ok (λ v. tree_at v variable ≡ tree.now)) }
 {
     match binds.get(variable) {
         Some(Some(bound)) => Ok(same_term(bound, tree)),

@@ -2,9 +2,12 @@
 ghost use Rattle.std.specs.Prelude.{◌≡◌, ◌↔◌, All, IfOk, IsTrue, true};
 ghost use Rattle.data_value.specs.declared.Scalar.TheVariants.{Flag};
 ghost use Rattle.data_value.specs.declared.Value.TheVariants.{One};
+ghost use Rattle.data_value.specs.Ground.{ground_seen};
 ghost use Rattle.sort_term.specs.Tree.{IsTrueTree, value};
 ghost use Rattle.sort_term.specs.Cuts.{AllTrue};
-ghost use Rattle.ground_step.specs.Binds.{Gives, Narrows};
+ghost use Rattle.sort_term.specs.NodeTerms.{seen_term};
+ghost use Rattle.unify.specs.Binds.{Gives};
+ghost use Rattle.ground_step.specs.GroundBinds.{Restricts, ground_binds};
 ghost use Rattle.ground_step.specs.Ready.{IsReady};
 
 use data_value::{Ground, Scalar, Value};
@@ -21,7 +24,7 @@ pub fn expression_tree<S: Side>(
     binds: &Binds<Value>,
 ) -> Result<Term<Value>, NoMemory>
     requires { IsReady semantics.now.cons binds.now expression.now }
-    ensures { IfOk result (λ tree. Gives binds.now expression.now tree) }
+    ensures { IfOk result (λ tree. Gives semantics.now.cons (ground_binds binds.now) expression.now (seen_term ground_seen tree)) }
 {
     let mut ground = Ground::new(alloc);
     Ok(evaluate(alloc, &mut ground, semantics, expression, binds)?)
@@ -66,7 +69,7 @@ fn holds<S: Side>(
     binds: &Binds<Value>,
 ) -> Result<bool, NoMemory>
     requires { IsReady semantics.now.cons binds.now condition.now }
-    ensures { IfOk result (λ ok. Narrows binds.now binds.now ok (λ v. IsTrueTree (value v condition.now))) }
+    ensures { IfOk result (λ ok. Restricts binds.now binds.now ok (λ v. IsTrueTree (value v condition.now))) }
 {
     let tree = expression_tree(alloc, semantics, condition, binds)?;
     Ok(is_true_tree(&tree))
@@ -80,7 +83,7 @@ pub fn all_hold<S: Side>(
     binds: &Binds<Value>,
 ) -> Result<bool, NoMemory>
     requires { All (IsReady semantics.now.cons binds.now) conditions.now }
-    ensures { IfOk result (λ ok. Narrows binds.now binds.now ok (λ v. AllTrue v conditions.now)) }
+    ensures { IfOk result (λ ok. Restricts binds.now binds.now ok (λ v. AllTrue v conditions.now)) }
 {
     for condition in conditions {
         if !holds(alloc, semantics, condition, binds)? {

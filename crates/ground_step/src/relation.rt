@@ -3,7 +3,7 @@ ghost use Rattle.std.specs.Prelude.{◌≡◌, ◌≢◌, ◌<◌, [], All, IfOk
 ghost use Rattle.sort_term.specs.Tree.{plain_of, value};
 ghost use Rattle.sort_term.specs.Step.{IsState};
 ghost use Rattle.sort_term.specs.Problems.{IsPointOf};
-ghost use Rattle.ground_step.specs.Binds.{Narrows};
+ghost use Rattle.ground_step.specs.GroundBinds.{Restricts};
 ghost use Rattle.ground_step.specs.Ready.{IsReady};
 ghost use Rattle.ground_step.specs.Fit.{AreOf, Determines, DeterminesAll, IsFitOf, IsValueBound, ReadsWithin, RelationIs, some_plain};
 
@@ -142,7 +142,7 @@ fn gives<S: Side>(
     tree: &Term<Value>,
 ) -> Result<bool, NoMemory>
     requires { IsReady semantics.now.cons binds.now term.now }
-    ensures { IfOk result (λ ok. Narrows binds.now binds.now ok (λ v. value v term.now ≡ tree.now)) }
+    ensures { IfOk result (λ ok. Restricts binds.now binds.now ok (λ v. value v term.now ≡ tree.now)) }
 {
     let found = expression_tree(alloc, semantics, term, binds)?;
     Ok(same_term(&found, tree))

@@ -1,9 +1,10 @@
-use Rattle.std.proofs.Common.{arith, ◌≡◌, ◌+◌, ◌∷◌, [], ◌++◌, All, sym, ap, subst, ◌∙◌}
+use Rattle.std.proofs.Common.{arith, ◌≡◌, ◌+◌, ◌∷◌, [], All, sym, subst}
 use Rattle.sort_term.specs.Step.{StepsBy}
 use Rattle.sort_term.specs.Cuts.{InCut}
-use Rattle.ground_step.specs.Reach.{StartedRun, NoneTwice, runs_of, EndsInState, AreExactly, Adds, OneStepMore, Stops, StopsMoved, LongFrom, MetFrom, HaltedFrom}
+use Rattle.ground_step.specs.Reach.{NoneTwice, runs_of, EndsInState, AreExactly, Adds, OneStepMore, Stops, StopsMoved, LongFrom, MetFrom, HaltedFrom}
 use Rattle.ground_step.proofs.Exactly.{exactly_none, exactly_one, exactly_same, exactly_adds}
 use Rattle.ground_step.proofs.Levels.{HaltedBelow, long_zero, met_zero, halted_zero, long_more, met_more, met_apart, halted_more, halted_apart, halted_last}
+use Rattle.ground_step.proofs.Growing.{one_run}
 use Rattle.ground_step.proofs.States.{long_states}
 use Rattle.ground_step.proofs.reach.cut_successors.Goals as goal
 
@@ -12,7 +13,7 @@ loop-level-init g c =
     let sys = c.args.semantics.now in
     let tables = c.args.program.now in
     let s = c.args.state.now.term in
-    let first : runs_of c.push.new.self.items ≡ (s, []) ∷ [] = ap (λ l. runs_of l) (c.in_ok-push.ensures.items ∙ ap (λ l. l ++ c.in_ok-at.field-0 ∷ []) c.new-outside.ensures.items) ∙ ap (λ (p : StartedRun). p ∷ []) c.in_ok-at.ensures in
+    let first : runs_of c.push.new.self.items ≡ (s, []) ∷ [] = one_run c.new-outside.result.items c.push.new.self.items c.in_ok-at.field-0 (s, []) c.in_ok-push.ensures.items c.new-outside.ensures.items c.in_ok-at.ensures in
     record {
       met = subst (λ l. AreExactly (MetFrom sys tables c.args.cuts.now s 0) (runs_of l)) (sym c.new-met.ensures) (exactly_none (MetFrom sys tables c.args.cuts.now s 0) (met_zero (StepsBy sys tables) (InCut sys.cons c.args.cuts.now) s));
       long = subst (AreExactly (LongFrom sys tables c.args.cuts.now s 0)) (sym first) (exactly_one (s, []) (LongFrom sys tables c.args.cuts.now s 0) (long_zero (StepsBy sys tables) (InCut sys.cons c.args.cuts.now) s));
