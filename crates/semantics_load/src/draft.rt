@@ -209,7 +209,7 @@ impl Draft {
         ensures ok { IfOk result (Declares self (Item.Config name.now)) }
         ensures unread { UnreadOnlyIfNone result (Declares self (Item.Config name.now)) }
     {
-        if self.state_sort.is_some() {
+        if self.has_config() {
             return Err(LoadError::Unread);
         }
         let Some(sort) = self.known().inhabited(name) else {
