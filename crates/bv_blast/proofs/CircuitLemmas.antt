@@ -12,7 +12,7 @@ use Rattle.data_value.specs.declared.flat_formula.FlatNode.{FlatNode}
 use Rattle.data_value.specs.Flat.{flat_values, AreWords}
 use Rattle.bit_gates.specs.declared.builder.Builder.{Builder}
 use Rattle.bit_gates.specs.Bits.{constant_lit}
-use Rattle.bit_gates.specs.Extends.{Grows, Holds}
+use Rattle.bit_gates.specs.Grows.{Grows, Holds}
 use Rattle.bit_gates.proofs.RangeLemmas.{all_same, all_true_both, all_true_parts}
 use Rattle.bv_blast.specs.declared.circuit.Circuit.{Circuit}
 use Rattle.bv_blast.specs.declared.place.Place.{Place}

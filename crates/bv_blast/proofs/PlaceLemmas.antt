@@ -24,7 +24,7 @@ use Rattle.data_value.specs.Flat.{at_places, in_turn, node_sort, node_value, fla
 use Rattle.data_value.proofs.FlatLemmas.{at_places-map, in_turn_more}
 use Rattle.bit_gates.specs.declared.builder.Builder.{Builder}
 use Rattle.bit_gates.specs.Bits.{number, constant_lit, exclusive_or}
-use Rattle.bit_gates.specs.Extends.{Grows, Holds}
+use Rattle.bit_gates.specs.Grows.{Grows, Holds}
 use Rattle.bit_gates.specs.Meaning.{HasLit, IsBit, IsWord}
 use Rattle.bit_gates.proofs.RangeLemmas.{clause_below_more}
 use Rattle.bv_blast.specs.declared.place.Place.{Place}

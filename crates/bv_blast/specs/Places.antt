@@ -13,7 +13,7 @@ use Rattle.data_value.specs.Ops.{scalar_value}
 use Rattle.data_value.specs.Flat.{node_sort, node_value, flat_sorts, flat_values}
 use Rattle.bit_gates.specs.declared.builder.Builder.{Builder}
 use Rattle.bit_gates.specs.Bits.{number}
-use Rattle.bit_gates.specs.Extends.{Holds}
+use Rattle.bit_gates.specs.Grows.{Holds}
 use Rattle.bit_gates.specs.Meaning.{HasLit, HasLits}
 use Rattle.bv_blast.specs.declared.place.Place.{Place}
 use Rattle.bv_blast.specs.declared.place.Place.TheVariants.{Flag, Word}

@@ -3,7 +3,7 @@ ghost use Rattle.std.specs.Prelude.{◌≡◌, ◌≢◌, [], ◌∷◌, length,
 ghost use Rattle.data_value.specs.declared.Op.TheVariants.{Concat};
 ghost use Rattle.data_value.specs.declared.DataSort.TheVariants.{Bits as BitsSort, Bool as BoolSort};
 ghost use Rattle.data_value.specs.Sorts.{IsWidth, IsSort, op_sort};
-ghost use Rattle.bit_gates.specs.Extends.{Grows};
+ghost use Rattle.bit_gates.specs.Grows.{Grows};
 ghost use Rattle.bit_gates.specs.Meaning.{HasLit, HasLits};
 ghost use Rattle.bv_blast.specs.declared.place.Place.TheVariants.{Flag, Word};
 ghost use Rattle.bv_blast.specs.Places.{place_sort, HasPlace, IsApplied};

@@ -5,7 +5,7 @@ ghost use Rattle.data_value.specs.declared.DataSort.TheVariants.{Bool as BoolSor
 ghost use Rattle.data_value.specs.Sorts.{IsSort, op_sort};
 ghost use Rattle.data_value.specs.Values.{IsScalar};
 ghost use Rattle.data_value.specs.Flat.{at_places, node_sort, HaveSorts};
-ghost use Rattle.bit_gates.specs.Extends.{Grows};
+ghost use Rattle.bit_gates.specs.Grows.{Grows};
 ghost use Rattle.bv_blast.specs.declared.place.Place.TheVariants.{Flag};
 ghost use Rattle.bv_blast.specs.Inputs.{IsBits, positive, widths_of};
 ghost use Rattle.bv_blast.specs.Places.{place_sort, HasPlace, IsApplied, IsFixed, IsNode, AreNodes};

@@ -1,5 +1,5 @@
 use Rattle.std.proofs.Common.{take}
-use Rattle.bit_gates.specs.Extends.{Grows}
+use Rattle.bit_gates.specs.Grows.{Grows}
 use Rattle.bv_blast.specs.Places.{AreNodes}
 use Rattle.bv_blast.proofs.walk.blast_nodes.Given as goal
 
