@@ -9,7 +9,7 @@ use Rattle.data_value.specs.Words.{wrap, quotient, remainder}
 use Rattle.data_value.proofs.WordLemmas.{quotient_below, remainder_below}
 use Rattle.bit_gates.specs.declared.builder.Builder.{Builder}
 use Rattle.bit_gates.specs.Bits.{number, constant_lit}
-use Rattle.bit_gates.specs.Extends.{Grows, Holds}
+use Rattle.bit_gates.specs.Grows.{Grows, Holds}
 use Rattle.bit_gates.specs.Meaning.{HasLits, IsBit, IsWord}
 use Rattle.bit_gates.specs.Free.{IsFree}
 use Rattle.bit_gates.specs.Division.{IsDivision, is_rest, is_division}

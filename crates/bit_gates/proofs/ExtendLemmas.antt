@@ -3,17 +3,17 @@ use Rattle.std.proofs.Common.{ℕ, ◌≡◌, ◌<◌, ◌+◌, Bool, true, if�
 use Rattle.std.proofs.lemmas.Bool.{ne_eqb, eq-eqb}
 use Rattle.refute_check.specs.declared.lit.Lit.{Lit}
 use Rattle.refute_check.specs.Truth.{all_true, list_below}
-use Rattle.bit_gates.specs.Extends.{Extends}
+use Rattle.bit_gates.specs.Grows.{IsConservative}
 use Rattle.bit_gates.proofs.RangeLemmas.{all_same, all_true_both, all_true_parts}
 
-pub extends_refl : (n : ℕ) (cs : List (List Lit)) → Extends n cs n cs
+pub extends_refl : (n : ℕ) (cs : List (List Lit)) → IsConservative n cs n cs
 extends_refl n cs = record {
   grows = omega arith;
   keeps = λ a h. h;
   reaches = λ a h. record { bits = a; holds = h; same = λ x l. refl };
 }
 
-pub extends_trans : {n m k : ℕ} {cs ds es : List (List Lit)} → Extends n cs m ds → Extends m ds k es → Extends n cs k es
+pub extends_trans : {n m k : ℕ} {cs ds es : List (List Lit)} → IsConservative n cs m ds → IsConservative m ds k es → IsConservative n cs k es
 extends_trans {n} {m} {k} {cs} {ds} {es} p q = record {
   grows = let u = p.grows in let v = q.grows in omega arith;
   keeps = λ a h. p.keeps a (q.keeps a h);
@@ -34,7 +34,7 @@ pub updated_other : (a : ℕ → Bool) (n : ℕ) (v : Bool) (x : ℕ) → x < n 
 updated_other a n v x l = ap (λ (t : Bool). if t then v else a x) (ne_eqb x n (λ e. omega arith))
 
 -- one more variable, with clauses that some value of it always makes true
-pub defines : (n : ℕ) (cs ds es : List (List Lit)) (f : (ℕ → Bool) → Bool) → list_below n cs ≡ true → es ≡ cs ++ ds → ((a : ℕ → Bool) → all_true (updated a n (f a)) ds ≡ true) → Extends n cs (n + 1) es
+pub defines : (n : ℕ) (cs ds es : List (List Lit)) (f : (ℕ → Bool) → Bool) → list_below n cs ≡ true → es ≡ cs ++ ds → ((a : ℕ → Bool) → all_true (updated a n (f a)) ds ≡ true) → IsConservative n cs (n + 1) es
 defines n cs ds es f h e k = record {
   grows = omega arith;
   keeps = λ a t. (all_true_parts a cs ds (ap (all_true a) (sym e) ∙ t)).0;

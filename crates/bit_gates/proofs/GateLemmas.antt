@@ -4,7 +4,7 @@ use Rattle.refute_check.specs.declared.lit.Lit.{Lit}
 use Rattle.refute_check.specs.Truth.{flipped, lit_true, clause_true, all_true, list_below}
 use Rattle.refute_check.proofs.TruthLemmas.{flipped_true}
 use Rattle.bit_gates.specs.Bits.{exclusive_or}
-use Rattle.bit_gates.specs.Extends.{Extends}
+use Rattle.bit_gates.specs.Grows.{IsConservative}
 use Rattle.bit_gates.proofs.RangeLemmas.{all_true_parts, lit_same}
 use Rattle.bit_gates.proofs.ExtendLemmas.{defines, updated, updated_same, updated_other}
 
@@ -46,7 +46,7 @@ and_test_means false true false h = refl
 and_test_means false false true h = refl
 and_test_means false false false h = refl
 
-pub and_extends : (n : ℕ) (cs es : List (List Lit)) (x y : Lit) → list_below n cs ≡ true → x.var < n → y.var < n → es ≡ cs ++ and_clauses (at n) x y → Extends n cs (n + 1) es
+pub and_extends : (n : ℕ) (cs es : List (List Lit)) (x y : Lit) → list_below n cs ≡ true → x.var < n → y.var < n → es ≡ cs ++ and_clauses (at n) x y → IsConservative n cs (n + 1) es
 and_extends n cs es x y s h0 h1 e =
     defines n cs (and_clauses (at n) x y) es (λ a. lit_true a x && lit_true a y) s e
     (λ a.
@@ -93,7 +93,7 @@ xor_test_means false true false h = cc
 xor_test_means false false true h = cc
 xor_test_means false false false h = refl
 
-pub xor_extends : (n : ℕ) (cs es : List (List Lit)) (x y : Lit) → list_below n cs ≡ true → x.var < n → y.var < n → es ≡ cs ++ xor_clauses (at n) x y → Extends n cs (n + 1) es
+pub xor_extends : (n : ℕ) (cs es : List (List Lit)) (x y : Lit) → list_below n cs ≡ true → x.var < n → y.var < n → es ≡ cs ++ xor_clauses (at n) x y → IsConservative n cs (n + 1) es
 xor_extends n cs es x y s h0 h1 e =
     defines n cs (xor_clauses (at n) x y) es (λ a. exclusive_or (lit_true a x) (lit_true a y)) s e
     (λ a.
@@ -152,7 +152,7 @@ mux_test_means false false true false h = refl
 mux_test_means false false false true h = cc
 mux_test_means false false false false h = refl
 
-pub mux_extends : (n : ℕ) (cs es : List (List Lit)) (s x y : Lit) → list_below n cs ≡ true → s.var < n → x.var < n → y.var < n → es ≡ cs ++ mux_clauses (at n) s x y → Extends n cs (n + 1) es
+pub mux_extends : (n : ℕ) (cs es : List (List Lit)) (s x y : Lit) → list_below n cs ≡ true → s.var < n → x.var < n → y.var < n → es ≡ cs ++ mux_clauses (at n) s x y → IsConservative n cs (n + 1) es
 mux_extends n cs es s x y below h0 h1 h2 e =
     defines n cs (mux_clauses (at n) s x y) es (λ a. if lit_true a s then lit_true a x else lit_true a y) below e
     (λ a.

@@ -7,7 +7,7 @@ use Rattle.refute_check.proofs.TruthLemmas.{flipped_true}
 use Rattle.refute_check.proofs.LitLemmas.{same_lit_eq}
 use Rattle.bit_gates.specs.declared.builder.Builder.{Builder}
 use Rattle.bit_gates.specs.Bits.{constant_lit, toggled, exclusive_or, Grounded}
-use Rattle.bit_gates.specs.Extends.{Grows, Holds}
+use Rattle.bit_gates.specs.Grows.{Grows, Holds}
 use Rattle.bit_gates.specs.Meaning.{HasLit, IsBit}
 use Rattle.bit_gates.proofs.RangeLemmas.{all_true_parts}
 

@@ -7,7 +7,7 @@ use Rattle.refute_check.specs.Truth.{lit_true}
 use Rattle.data_value.specs.Words.{wrap}
 use Rattle.bit_gates.specs.declared.builder.Builder.{Builder}
 use Rattle.bit_gates.specs.Bits.{bit, number, constant_lit}
-use Rattle.bit_gates.specs.Extends.{Grows}
+use Rattle.bit_gates.specs.Grows.{Grows}
 use Rattle.bit_gates.specs.Meaning.{IsWord}
 use Rattle.bit_gates.proofs.NumberLemmas.{number_nil, number_take}
 use Rattle.bit_gates.proofs.WordLemmas.{word_same, take_all}

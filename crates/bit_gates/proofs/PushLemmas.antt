@@ -11,7 +11,7 @@ use Rattle.bit_gates.specs.declared.bitwise.Gate.{Gate}
 use Rattle.bit_gates.specs.declared.bitwise.Gate.TheVariants.{And, Or, Xor}
 use Rattle.bit_gates.specs.Bits.{bit, number, exclusive_or, constant_lit}
 use Rattle.bit_gates.specs.Gates.{gate_value, gate_number}
-use Rattle.bit_gates.specs.Extends.{Grows}
+use Rattle.bit_gates.specs.Grows.{Grows}
 use Rattle.bit_gates.specs.Meaning.{IsBit, IsWord}
 use Rattle.bit_gates.proofs.NumberLemmas.{number_nil, number_take}
 use Rattle.bit_gates.proofs.KnownLemmas.{known, has_constant}

@@ -10,7 +10,7 @@ use Rattle.bit_gates.specs.declared.builder.Builder.{Builder}
 use Rattle.bit_gates.specs.declared.shifts.Direction.{Direction}
 use Rattle.bit_gates.specs.declared.shifts.Direction.TheVariants.{Up, Down}
 use Rattle.bit_gates.specs.Bits.{bit, number, constant_lit}
-use Rattle.bit_gates.specs.Extends.{Grows, Holds}
+use Rattle.bit_gates.specs.Grows.{Grows, Holds}
 use Rattle.bit_gates.specs.Meaning.{HasLit, HasLits, IsBit, IsWord}
 use Rattle.bit_gates.specs.Moves.{moved_down, moved, HasFill}
 use Rattle.bit_gates.proofs.RangeLemmas.{clause_below_more}

@@ -9,7 +9,7 @@ use Rattle.refute_check.specs.Truth.{lit_true, clause_below, flipped}
 use Rattle.refute_check.proofs.TruthLemmas.{flipped_true}
 use Rattle.data_value.specs.Words.{wrap, signed_rank}
 use Rattle.bit_gates.specs.Bits.{bit, number, constant_lit}
-use Rattle.bit_gates.specs.Extends.{Grows}
+use Rattle.bit_gates.specs.Grows.{Grows}
 use Rattle.bit_gates.specs.Meaning.{HasLit, IsWord, IsBit}
 use Rattle.bit_gates.specs.Sums.{IsBitSum, IsSum}
 use Rattle.bit_gates.proofs.KnownLemmas.{known, bit_same, bit_flipped}

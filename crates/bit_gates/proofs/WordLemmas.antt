@@ -10,7 +10,7 @@ use Rattle.refute_check.specs.Truth.{lit_true, flipped, clause_below}
 use Rattle.refute_check.proofs.TruthLemmas.{flipped_true}
 use Rattle.bit_gates.specs.declared.builder.Builder.{Builder}
 use Rattle.bit_gates.specs.Bits.{bit, number}
-use Rattle.bit_gates.specs.Extends.{Grows, Holds}
+use Rattle.bit_gates.specs.Grows.{Grows, Holds}
 use Rattle.bit_gates.specs.Meaning.{HasLit, HasLits, IsWord}
 use Rattle.bit_gates.proofs.RangeLemmas.{clause_below_more, clause_below_append, one_below}
 use Rattle.bit_gates.proofs.NumberLemmas.{number_nil, number_cons, number_join, number_append, number_below, doubled}

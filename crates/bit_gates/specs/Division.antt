@@ -14,6 +14,10 @@ is_rest w y q r = nat_lt r y || ((y == 0) && (q == 2 ^ w - 1))
 abbrev pub is_division : ℕ → ℕ → ℕ → ℕ → ℕ → Bool
 is_division w x y q r = (q * y + r == x) && is_rest w y q r
 
+-- the numbers that the words spell under an assignment are a division
+abbrev pub spells_division : (ℕ → Bool) → List Lit → List Lit → List Lit → List Lit → Bool
+spells_division a xs ys qs rs = is_division (length xs) (number a xs) (number a ys) (number a qs) (number a rs)
+
 -- qs and rs spell the quotient and the remainder of xs and ys
 pub record IsDivision (b : Builder) (xs ys qs rs : List Lit) : Type 0 where
   pub quotient : IsWord b qs (length xs) (λ a. quotient (length xs) (number a xs) (number a ys))

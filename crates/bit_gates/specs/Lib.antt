@@ -1,8 +1,9 @@
 pub mod Bits
-pub mod Extends
+pub mod Grows
 pub mod Meaning
 pub mod Gates
 pub mod Sums
 pub mod Moves
+pub mod Orders
 pub mod Free
 pub mod Division

@@ -4,7 +4,7 @@ use Rattle.refute_check.specs.declared.lit.Lit.{Lit}
 use Rattle.refute_check.specs.Truth.{lit_true, clause_below}
 use Rattle.bit_gates.specs.declared.builder.Builder.{Builder}
 use Rattle.bit_gates.specs.Bits.{number}
-use Rattle.bit_gates.specs.Extends.{Holds}
+use Rattle.bit_gates.specs.Grows.{Holds}
 
 -- a literal of one of the variables
 abbrev pub HasLit : Builder → Lit → Type 0

@@ -4,7 +4,7 @@ use Rattle.refute_check.specs.declared.lit.Lit.{Lit}
 use Rattle.refute_check.specs.Truth.{lit_true}
 use Rattle.bit_gates.specs.declared.builder.Builder.{Builder}
 use Rattle.bit_gates.specs.Bits.{bit, number}
-use Rattle.bit_gates.specs.Extends.{Holds}
+use Rattle.bit_gates.specs.Grows.{Holds}
 use Rattle.bit_gates.specs.Meaning.{HasLit, HasLits}
 
 -- the sum of three bits has the low bit s and the high bit d

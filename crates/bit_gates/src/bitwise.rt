@@ -2,7 +2,7 @@
 ghost use Rattle.std.specs.Prelude.{◌≡◌, ◌-◌, ◌^◌, length, map, bit_and, bit_or, bit_xor, if◌then◌else◌, IfOk, OnOk};
 ghost use Rattle.refute_check.specs.Truth.{flipped, lit_true};
 ghost use Rattle.bit_gates.specs.Bits.{number};
-ghost use Rattle.bit_gates.specs.Extends.{Grows};
+ghost use Rattle.bit_gates.specs.Grows.{Grows};
 ghost use Rattle.bit_gates.specs.Meaning.{HasLit, HasLits, IsBit, IsWord};
 ghost use Rattle.bit_gates.specs.Gates.{gate_value, gate_number};
 

@@ -2,8 +2,9 @@
 ghost use Rattle.std.specs.Prelude.{◌≡◌, ◌<◌, ◌-◌, ◌==◌, ◌++◌, [], ◌∷◌, nat_lt, nat_le, length, take, IfOk, OnOk};
 ghost use Rattle.data_value.specs.Words.{signed_rank};
 ghost use Rattle.bit_gates.specs.Bits.{number};
-ghost use Rattle.bit_gates.specs.Extends.{Grows};
+ghost use Rattle.bit_gates.specs.Grows.{Grows};
 ghost use Rattle.bit_gates.specs.Meaning.{HasLits, IsBit, IsWord};
+ghost use Rattle.bit_gates.specs.Orders.{signed_lt, signed_le};
 
 use crate::Word;
 use crate::bitwise::flip_all;
@@ -62,7 +63,7 @@ pub fn signed_below(b: &mut Builder, x: &[Lit], y: &[Lit]) -> Result<Lit, NoMemo
     requires same { length y.now ≡ length x.now }
     requires some { 0 < length x.now }
     ensures extends { OnOk result (Grows b.old b.new) }
-    ensures made { IfOk result (λ z. IsBit b.new z (λ a. nat_lt (signed_rank (length x.now) (number a x.now)) (signed_rank (length x.now) (number a y.now)))) }
+    ensures made { IfOk result (λ z. IsBit b.new z (λ a. signed_lt (length x.now) (number a x.now) (number a y.now))) }
 {
     let first = flip_top(b, x)?;
     let second = flip_top(b, y)?;
@@ -77,7 +78,7 @@ pub fn signed_below_or_equal(b: &mut Builder, x: &[Lit], y: &[Lit]) -> Result<Li
     requires same { length y.now ≡ length x.now }
     requires some { 0 < length x.now }
     ensures extends { OnOk result (Grows b.old b.new) }
-    ensures made { IfOk result (λ z. IsBit b.new z (λ a. nat_le (signed_rank (length x.now) (number a x.now)) (signed_rank (length x.now) (number a y.now)))) }
+    ensures made { IfOk result (λ z. IsBit b.new z (λ a. signed_le (length x.now) (number a x.now) (number a y.now))) }
 {
     let above = signed_below(b, y, x)?;
     Ok(above.flip())

@@ -1,9 +1,9 @@
 //! Quotients and remainders. No division is carried out: two new words are said to be the quotient and the remainder.
 ghost use Rattle.std.specs.Prelude.{◌≡◌, ◌+◌, ◌*◌, length, IfOk, OnOk};
 ghost use Rattle.bit_gates.specs.Bits.{number};
-ghost use Rattle.bit_gates.specs.Extends.{Grows};
+ghost use Rattle.bit_gates.specs.Grows.{Grows};
 ghost use Rattle.bit_gates.specs.Meaning.{HasLits, IsBit, IsWord};
-ghost use Rattle.bit_gates.specs.Division.{IsDivision, is_rest, is_division};
+ghost use Rattle.bit_gates.specs.Division.{IsDivision, is_rest, spells_division};
 
 use crate::Word;
 use crate::bitwise::flip_all;
@@ -55,7 +55,7 @@ fn divides(b: &mut Builder, x: &[Lit], y: &[Lit], q: &[Lit], r: &[Lit]) -> Resul
     requires same_q { length q.now ≡ length x.now }
     requires same_r { length r.now ≡ length x.now }
     ensures extends { OnOk result (Grows b.old b.new) }
-    ensures made { IfOk result (λ z. IsBit b.new z (λ a. is_division (length x.now) (number a x.now) (number a y.now) (number a q.now) (number a r.now))) }
+    ensures made { IfOk result (λ z. IsBit b.new z (λ a. spells_division a x.now y.now q.now r.now)) }
 {
     let total = product_sum(b, q, y, r)?;
     let wide = extend_zero(b, x, 2 * x.len())?;

@@ -4,7 +4,7 @@
 ghost use Rattle.std.specs.Prelude.{◌≡◌, ◌&&◌, ◌||◌, if◌then◌else◌, IfOk, OnOk};
 ghost use Rattle.refute_check.specs.Truth.{lit_true};
 ghost use Rattle.bit_gates.specs.Bits.{exclusive_or, toggled};
-ghost use Rattle.bit_gates.specs.Extends.{Grows};
+ghost use Rattle.bit_gates.specs.Grows.{Grows};
 ghost use Rattle.bit_gates.specs.Meaning.{HasLit, IsBit};
 
 use crate::builder::{Builder, constant};

@@ -30,7 +30,8 @@ pub fn constant_word(b: &Builder, width: usize, value: u64) -> Result<Word, NoMe
 pub fn concat(b: &Builder, high: &[Lit], low: &[Lit]) -> Result<Word, NoMemory>
     requires high { HasLits b.now high.now }
     requires low { HasLits b.now low.now }
-    ensures { IfOk result (λ v. IsWord b.now v (length high.now + length low.now) (λ a. number a high.now * 2 ^ length low.now + number a low.now)) }
+    ensures { IfOk result (λ v. IsWord b.now v (length high.now + length low.now)
+        (λ a. number a high.now * 2 ^ length low.now + number a low.now)) }
 {
     join(b.alloc, low, high)
 }

@@ -3,7 +3,7 @@ ghost use Rattle.std.specs.Prelude.{◌≡◌, ◌≤◌, ◌+◌, ◌*◌, ◌^
 ghost use Rattle.refute_check.specs.Truth.{lit_true};
 ghost use Rattle.data_value.specs.Words.{wrap};
 ghost use Rattle.bit_gates.specs.Bits.{bit, number};
-ghost use Rattle.bit_gates.specs.Extends.{Grows};
+ghost use Rattle.bit_gates.specs.Grows.{Grows};
 ghost use Rattle.bit_gates.specs.Meaning.{HasLit, HasLits, IsWord};
 
 use crate::Word;
@@ -43,7 +43,8 @@ fn add_partial(
     requires same { length sum.now ≡ length x.now }
     requires within { count ≤ length x.now }
     ensures extends { OnOk result (Grows b.old b.new) }
-    ensures made { IfOk result (λ v. IsWord b.new v (length x.now) (λ a. wrap (length x.now) (number a sum.now + number a x.now * (2 ^ count * bit (lit_true a s))))) }
+    ensures made { IfOk result (λ v. IsWord b.new v (length x.now)
+        (λ a. wrap (length x.now) (number a sum.now + number a x.now * (2 ^ count * bit (lit_true a s))))) }
 {
     let zeros = repeat(b.alloc, constant(false), x.len())?;
     let moved = raised(b, x, count)?;

@@ -2,7 +2,7 @@
 ghost use Rattle.std.specs.Prelude.{◌≡◌, ◌<◌, ◌≤◌, ◌-◌, length, IfOk, OnOk};
 ghost use Rattle.data_value.specs.Words.{shift_left, shift_right, shift_signed};
 ghost use Rattle.bit_gates.specs.Bits.{number};
-ghost use Rattle.bit_gates.specs.Extends.{Grows};
+ghost use Rattle.bit_gates.specs.Grows.{Grows};
 ghost use Rattle.bit_gates.specs.Meaning.{HasLits, IsWord};
 ghost use Rattle.bit_gates.specs.Moves.{HasFill, moved};
 

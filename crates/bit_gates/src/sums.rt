@@ -2,7 +2,7 @@
 ghost use Rattle.std.specs.Prelude.{◌≡◌, ◌+◌, ◌-◌, ◌^◌, length, IfOk, OnOk};
 ghost use Rattle.data_value.specs.Words.{wrap};
 ghost use Rattle.bit_gates.specs.Bits.{number};
-ghost use Rattle.bit_gates.specs.Extends.{Grows};
+ghost use Rattle.bit_gates.specs.Grows.{Grows};
 ghost use Rattle.bit_gates.specs.Meaning.{HasLit, HasLits, IsWord};
 ghost use Rattle.bit_gates.specs.Sums.{IsBitSum, IsSum};
 
@@ -33,7 +33,8 @@ pub fn subtract(b: &mut Builder, x: &[Lit], y: &[Lit]) -> Result<Word, NoMemory>
     requires y { HasLits b.old y.now }
     requires same { length y.now ≡ length x.now }
     ensures extends { OnOk result (Grows b.old b.new) }
-    ensures made { IfOk result (λ v. IsWord b.new v (length x.now) (λ a. wrap (length x.now) (number a x.now + 2 ^ length x.now - number a y.now))) }
+    ensures made { IfOk result (λ v. IsWord b.new v (length x.now)
+        (λ a. wrap (length x.now) (number a x.now + 2 ^ length x.now - number a y.now))) }
 {
     let flips = flip_all(b.alloc, y)?;
     let sum = add_words(b, x, flips.as_slice(), constant(true))?;

@@ -12,14 +12,14 @@ use Rattle.data_value.specs.declared.flat_formula.FlatNode.{FlatNode}
 use Rattle.data_value.specs.Flat.{flat_values, AreWords}
 use Rattle.bit_gates.specs.declared.builder.Builder.{Builder}
 use Rattle.bit_gates.specs.Bits.{constant_lit}
-use Rattle.bit_gates.specs.Extends.{Grows, Holds}
+use Rattle.bit_gates.specs.Grows.{Grows, Holds}
 use Rattle.bit_gates.proofs.RangeLemmas.{all_same, all_true_both, all_true_parts}
 use Rattle.bv_blast.specs.declared.circuit.Circuit.{Circuit}
 use Rattle.bv_blast.specs.declared.place.Place.{Place}
 use Rattle.bv_blast.specs.declared.place.Place.TheVariants.{Flag}
 use Rattle.bv_blast.specs.Inputs.{spelled, words_of, widths_of}
 use Rattle.bv_blast.specs.Free.{AreFree}
-use Rattle.bv_blast.specs.Places.{place_value, AreNodes}
+use Rattle.bv_blast.specs.Places.{place_value, HaveNodeValues}
 use Rattle.bv_blast.specs.Circuits.{IsCircuitOf}
 use Rattle.bv_blast.proofs.FreeLemmas.{words_same}
 use Rattle.bv_blast.proofs.ModelLemmas.{spelled_below}
@@ -48,7 +48,7 @@ unfolding lit_true all_true clause_true
 start_true cs e = ap (all_true (λ x. true)) e
 
 -- the value at the root
-root_value : (b : Builder) (inputs : List (List ℕ)) (nodes : List FlatNode) (places : List Place) (root : ℕ) (z : Lit) (a : ℕ → Bool) → AreNodes b inputs nodes places → slice_get places root ≡ Some (Flag z) → Holds b a
+root_value : (b : Builder) (inputs : List (List ℕ)) (nodes : List FlatNode) (places : List Place) (root : ℕ) (z : Lit) (a : ℕ → Bool) → HaveNodeValues b inputs nodes places → slice_get places root ≡ Some (Flag z) → Holds b a
     → slice_get (flat_values (widths_of inputs) (words_of a inputs) nodes) root ≡ Some (FlagValue (lit_true a z))
 root_value b inputs nodes places root z a h e o =
     ap (λ (vs : List Scalar). slice_get vs root) (sym (h.means a o)) ∙ slice_get-map (place_value a) places root ∙ ap (option_map (place_value a)) e
@@ -57,11 +57,11 @@ same_flag : (x y : Bool) → Some (FlagValue x) ≡ Some (FlagValue y) → x ≡
 same_flag x y e = cc
 
 pub is_circuit : (b0 b1 b2 : Builder) (flat : Flat) (circuit : Circuit) (widths : List ℕ) (inputs : List (List ℕ)) (nodes : List FlatNode) (places ps : List Place) (z : Lit)
-    → widths ≡ flat.widths → inputs ≡ circuit.inputs → nodes ≡ flat.nodes → ps ≡ places → b0.clauses.list ≡ (constant_lit true ∷ []) ∷ [] → AreFree b0 b1 circuit.inputs widths → Grows b1 b2 → AreNodes b2 inputs nodes places
+    → widths ≡ flat.widths → inputs ≡ circuit.inputs → nodes ≡ flat.nodes → ps ≡ places → b0.clauses.list ≡ (constant_lit true ∷ []) ∷ [] → AreFree b0 b1 circuit.inputs widths → Grows b1 b2 → HaveNodeValues b2 inputs nodes places
     → slice_get ps flat.root ≡ Some (Flag z) → circuit.clauses.list ≡ b2.clauses.list ++ (z ∷ []) ∷ [] → IsCircuitOf flat circuit
 is_circuit b0 b1 b2 flat circuit widths inputs nodes places ps z ew ei en ep e0 free g made er ec =
     let sizes : widths_of circuit.inputs ≡ flat.widths = free.sizes ∙ ew in
-    let named : AreNodes b2 circuit.inputs flat.nodes places = subst (λ (ns : List FlatNode). AreNodes b2 circuit.inputs ns places) en (subst (λ (is : List (List ℕ)). AreNodes b2 is nodes places) ei made) in
+    let named : HaveNodeValues b2 circuit.inputs flat.nodes places = subst (λ (ns : List FlatNode). HaveNodeValues b2 circuit.inputs ns places) en (subst (λ (is : List (List ℕ)). HaveNodeValues b2 is nodes places) ei made) in
     let root : (a : ℕ → Bool) → Holds b2 a → slice_get (flat_values flat.widths (words_of a circuit.inputs) flat.nodes) flat.root ≡ Some (FlagValue (lit_true a z)) =
     λ a o. rw sizes at (root_value b2 circuit.inputs flat.nodes places flat.root z a named (ap (λ (qs : List Place). slice_get qs flat.root) (sym ep) ∙ er) o) in
     record {

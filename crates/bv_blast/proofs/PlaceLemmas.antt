@@ -24,17 +24,17 @@ use Rattle.data_value.specs.Flat.{at_places, in_turn, node_sort, node_value, fla
 use Rattle.data_value.proofs.FlatLemmas.{at_places-map, in_turn_more}
 use Rattle.bit_gates.specs.declared.builder.Builder.{Builder}
 use Rattle.bit_gates.specs.Bits.{number, constant_lit, exclusive_or}
-use Rattle.bit_gates.specs.Extends.{Grows, Holds}
+use Rattle.bit_gates.specs.Grows.{Grows, Holds}
 use Rattle.bit_gates.specs.Meaning.{HasLit, IsBit, IsWord}
 use Rattle.bit_gates.proofs.RangeLemmas.{clause_below_more}
 use Rattle.bv_blast.specs.declared.place.Place.{Place}
 use Rattle.bv_blast.specs.declared.place.Place.TheVariants.{Flag, Word}
 use Rattle.bv_blast.specs.Inputs.{IsBits, positive, spelled, words_of, widths_of}
-use Rattle.bv_blast.specs.Places.{place_sort, place_value, HasPlace, IsApplied, IsFixed, IsNode, AreNodes}
+use Rattle.bv_blast.specs.Places.{place_sort, place_value, HasPlace, HasOpValue, HasValue, HasNodeValue, HaveNodeValues}
 use Rattle.bv_blast.proofs.FreeLemmas.{below_positive}
 
 -- the opposite of a literal
-pub not_place : (b : Builder) (x : Lit) → HasLit b x → IsApplied b Not (Flag x ∷ []) (Flag (flipped x))
+pub not_place : (b : Builder) (x : Lit) → HasLit b x → HasOpValue b Not (Flag x ∷ []) (Flag (flipped x))
 not_place b x h = record { in_range = h; sort = refl; means = λ a o. ap FlagValue (flipped_true a x) }
 
 same_flags : (x y : Bool) → not (exclusive_or x y) ≡ (if x then y else not y)
@@ -44,7 +44,7 @@ same_flags false true = refl
 same_flags false false = refl
 
 -- two truth values are equal where they don't differ
-pub equal_place : (b : Builder) (x y z : Lit) → IsBit b z (λ a. exclusive_or (lit_true a x) (lit_true a y)) → IsApplied b Eq (Flag x ∷ Flag y ∷ []) (Flag (flipped z))
+pub equal_place : (b : Builder) (x y z : Lit) → IsBit b z (λ a. exclusive_or (lit_true a x) (lit_true a y)) → HasOpValue b Eq (Flag x ∷ Flag y ∷ []) (Flag (flipped z))
 equal_place b x y z h = record {
   in_range = h.in_range;
   sort = refl;
@@ -57,10 +57,10 @@ unfolding lit_true
 constant_value b true a o = b.grounded a o
 constant_value b false a o = ap not (b.grounded a o)
 
-pub fixed_flag : (b : Builder) (v : Bool) (z : Lit) → z ≡ constant_lit v → IsFixed b (FlagValue v) (Flag z)
+pub fixed_flag : (b : Builder) (v : Bool) (z : Lit) → z ≡ constant_lit v → HasValue b (FlagValue v) (Flag z)
 fixed_flag b v z e = rw e (record { in_range = b.some; sort = refl; means = λ a o. ap FlagValue (constant_value b v a o) })
 
-pub fixed_word : (b : Builder) (w x : ℕ) (zs : List Lit) → x < 2 ^ w → IsWord b zs w (λ a. wrap w x) → IsFixed b (WordValue w x) (Word zs)
+pub fixed_word : (b : Builder) (w x : ℕ) (zs : List Lit) → x < 2 ^ w → IsWord b zs w (λ a. wrap w x) → HasValue b (WordValue w x) (Word zs)
 fixed_word b w x zs l h = record {
   in_range = h.in_range;
   sort = ap BitsSort h.width;
@@ -76,7 +76,7 @@ three_items (x ∷ y ∷ z ∷ []) h = refl
 three_items (x ∷ y ∷ z ∷ u ∷ xs) h = absurd (omega arith)
 
 pub three_places : (b : Builder) (op : Op) (places : List Place) (args : List ℕ) (x y z p : Place) → length args ≡ 3 → IsTrue (list_all (λ k. nat_lt k (length places)) args)
-    → x ≡ get_or places (get_or args 0 0) x → y ≡ get_or places (get_or args 1 0) y → z ≡ get_or places (get_or args 2 0) z → IsApplied b op (x ∷ y ∷ z ∷ []) p → (d : Place) → IsApplied b op (at_places d places args) p
+    → x ≡ get_or places (get_or args 0 0) x → y ≡ get_or places (get_or args 1 0) y → z ≡ get_or places (get_or args 2 0) z → HasOpValue b op (x ∷ y ∷ z ∷ []) p → (d : Place) → HasOpValue b op (at_places d places args) p
 three_places b op places args x y z p l t e f g h d =
     let items = three_items args l in
     let all : IsTrue (list_all (λ k. nat_lt k (length places)) (get_or args 0 0 ∷ get_or args 1 0 ∷ get_or args 2 0 ∷ [])) = subst (λ (ks : List ℕ). IsTrue (list_all (λ k. nat_lt k (length places)) ks)) items t in
@@ -87,7 +87,7 @@ three_places b op places args x y z p l t e f g h d =
     let at1 = get_or_read places (get_or args 1 0) y (ltb-true _ _ p1.0) f d in
     let at2 = get_or_read places (get_or args 2 0) z (ltb-true _ _ p2.0) g d in
     let same : x ∷ y ∷ z ∷ [] ≡ at_places d places args = cc in
-    subst (λ (ps : List Place). IsApplied b op ps p) same h
+    subst (λ (ps : List Place). HasOpValue b op ps p) same h
 
 -- ---- a node's value
 -- what a test of a lawful node says
@@ -96,7 +96,7 @@ lawful_test true o h = refl
 lawful_test false o h = cc
 
 pub input_place : (b : Builder) (inputs : List (List ℕ)) (places : List Place) (i : ℕ) (vs : List ℕ) (zs : List Lit) → All (IsBits b.clauses.vars) inputs
-    → IsSome (node_sort (widths_of inputs) (map place_sort places) (Input i)) → vs ≡ get_or inputs i vs → zs ≡ map positive vs → IsNode b inputs places (Input i) (Word zs)
+    → IsSome (node_sort (widths_of inputs) (map place_sort places) (Input i)) → vs ≡ get_or inputs i vs → zs ≡ map positive vs → HasNodeValue b inputs places (Input i) (Word zs)
 input_place b inputs places i vs zs h s e f =
     let t = lawful_test (nat_lt i (length (widths_of inputs))) (Some (BitsSort (get_or (widths_of inputs) i 0))) s in
     let l : i < length inputs = rw (length-map inputs (λ (bits : List ℕ). length bits)) at (ltb-true i (length (widths_of inputs)) t) in
@@ -112,7 +112,7 @@ input_place b inputs places i vs zs h s e f =
           ap (λ (n : ℕ). WordValue n (number a zs)) (size ∙ sym width) ∙ ap (WordValue (get_or (widths_of inputs) i 0)) (sym word);
     }
 
-pub fixed_place : (b : Builder) (inputs : List (List ℕ)) (places : List Place) (s : Scalar) (p : Place) → IsSome (node_sort (widths_of inputs) (map place_sort places) (Fixed s)) → IsFixed b s p → IsNode b inputs places (Fixed s) p
+pub fixed_place : (b : Builder) (inputs : List (List ℕ)) (places : List Place) (s : Scalar) (p : Place) → IsSome (node_sort (widths_of inputs) (map place_sort places) (Fixed s)) → HasValue b s p → HasNodeValue b inputs places (Fixed s) p
 fixed_place b inputs places s p l h = record {
   in_range = h.in_range;
   sort = ap (λ (v : Bool). if v then Some (scalar_sort s) else None) (lawful_test (is_scalar s) (Some (scalar_sort s)) l) ∙ ap Some (sym h.sort);
@@ -120,10 +120,10 @@ fixed_place b inputs places s p l h = record {
 }
 
 pub applied_place : (b : Builder) (inputs : List (List ℕ)) (places : List Place) (op : Op) (args ks : List ℕ) (p : Place) → IsSome (node_sort (widths_of inputs) (map place_sort places) (Apply op args)) → ks ≡ args
-    → ((d : Place) → IsApplied b op (at_places d places ks) p) → IsNode b inputs places (Apply op args) p
+    → ((d : Place) → HasOpValue b op (at_places d places ks) p) → HasNodeValue b inputs places (Apply op args) p
 applied_place b inputs places op args ks p l e h =
     let d : Place = Flag (constant_lit false) in
-    let r : IsApplied b op (at_places d places args) p = subst (λ (js : List ℕ). IsApplied b op (at_places d places js) p) e (h d) in
+    let r : HasOpValue b op (at_places d places args) p = subst (λ (js : List ℕ). HasOpValue b op (at_places d places js) p) e (h d) in
     let sorts : at_places BoolSort (map place_sort places) args ≡ map place_sort (at_places d places args) = at_places-map place_sort d places args in
     let o : Option DataSort = op_sort op (at_places BoolSort (map place_sort places) args) in
     record {
@@ -141,7 +141,7 @@ pub has_more : (b c : Builder) → Grows b c → (p : Place) → HasPlace b p �
 has_more b c g (Flag z) h = let l = g.grows in omega arith
 has_more b c g (Word zs) h = clause_below_more b.clauses.vars c.clauses.vars zs g.grows h
 
-pub nodes_none : (b : Builder) (inputs : List (List ℕ)) (places : List Place) → places ≡ [] → AreNodes b inputs [] places
+pub nodes_none : (b : Builder) (inputs : List (List ℕ)) (places : List Place) → places ≡ [] → HaveNodeValues b inputs [] places
 unfolding in_turn
 nodes_none b inputs places e = record {
   in_range = All-same (HasPlace b) places [] e (All-nil (HasPlace b));
@@ -152,11 +152,11 @@ nodes_none b inputs places e = record {
 some_is : (o : Option DataSort) (s : DataSort) → o ≡ Some s → s ≡ unwrap_or o BoolSort
 some_is o s e = sym (ap (λ (x : Option DataSort). unwrap_or x BoolSort) e)
 
-pub nodes_more : (b c : Builder) (inputs : List (List ℕ)) (nodes : List FlatNode) (places ps qs : List Place) (n : FlatNode) (p : Place) (i : ℕ) (d : FlatNode) → i < length nodes → AreNodes b inputs (take i nodes) places → Grows b c
-    → n ≡ get_or nodes i d → ps ≡ places → IsNode c inputs ps n p → qs ≡ places ++ p ∷ [] → AreNodes c inputs (take (i + 1) nodes) qs
+pub nodes_more : (b c : Builder) (inputs : List (List ℕ)) (nodes : List FlatNode) (places ps qs : List Place) (n : FlatNode) (p : Place) (i : ℕ) (d : FlatNode) → i < length nodes → HaveNodeValues b inputs (take i nodes) places → Grows b c
+    → n ≡ get_or nodes i d → ps ≡ places → HasNodeValue c inputs ps n p → qs ≡ places ++ p ∷ [] → HaveNodeValues c inputs (take (i + 1) nodes) qs
 nodes_more b c inputs nodes places ps qs n p i d l h g e s k f =
     let widths : List ℕ = widths_of inputs in
-    let here : IsNode c inputs places (get_or nodes i d) p = subst (λ (ms : List Place). IsNode c inputs ms (get_or nodes i d) p) s (subst (λ (m : FlatNode). IsNode c inputs ps m p) e k) in
+    let here : HasNodeValue c inputs places (get_or nodes i d) p = subst (λ (ms : List Place). HasNodeValue c inputs ms (get_or nodes i d) p) s (subst (λ (m : FlatNode). HasNodeValue c inputs ps m p) e k) in
     let sort : place_sort p ≡ unwrap_or (node_sort widths (flat_sorts widths (take i nodes)) (get_or nodes i d)) BoolSort =
     some_is _ _ (ap (λ (ss : List DataSort). node_sort widths ss (get_or nodes i d)) (sym h.sorts) ∙ here.sort) in
     record {

@@ -13,7 +13,7 @@ use Rattle.data_value.specs.Ops.{scalar_value}
 use Rattle.data_value.specs.Flat.{node_sort, node_value, flat_sorts, flat_values}
 use Rattle.bit_gates.specs.declared.builder.Builder.{Builder}
 use Rattle.bit_gates.specs.Bits.{number}
-use Rattle.bit_gates.specs.Extends.{Holds}
+use Rattle.bit_gates.specs.Grows.{Holds}
 use Rattle.bit_gates.specs.Meaning.{HasLit, HasLits}
 use Rattle.bv_blast.specs.declared.place.Place.{Place}
 use Rattle.bv_blast.specs.declared.place.Place.TheVariants.{Flag, Word}
@@ -35,25 +35,25 @@ HasPlace b (Flag z) = HasLit b z
 HasPlace b (Word zs) = HasLits b zs
 
 -- the place has the operator's value at these places wherever the clauses are true
-pub record IsApplied (b : Builder) (op : Op) (args : List Place) (p : Place) : Type 0 where
+pub record HasOpValue (b : Builder) (op : Op) (args : List Place) (p : Place) : Type 0 where
   pub in_range : HasPlace b p
   pub sort : op_sort op (map place_sort args) ≡ Some (place_sort p)
   pub means : (a : ℕ → Bool) → Holds b a → place_value a p ≡ scalar_value op (map (place_value a) args)
 
 -- the place has this value wherever the clauses are true
-pub record IsFixed (b : Builder) (s : Scalar) (p : Place) : Type 0 where
+pub record HasValue (b : Builder) (s : Scalar) (p : Place) : Type 0 where
   pub in_range : HasPlace b p
   pub sort : place_sort p ≡ scalar_sort s
   pub means : (a : ℕ → Bool) → Holds b a → place_value a p ≡ s
 
 -- the place has the node's value after these places wherever the clauses are true
-pub record IsNode (b : Builder) (inputs : List (List ℕ)) (places : List Place) (n : FlatNode) (p : Place) : Type 0 where
+pub record HasNodeValue (b : Builder) (inputs : List (List ℕ)) (places : List Place) (n : FlatNode) (p : Place) : Type 0 where
   pub in_range : HasPlace b p
   pub sort : node_sort (widths_of inputs) (map place_sort places) n ≡ Some (place_sort p)
   pub means : (a : ℕ → Bool) → Holds b a → place_value a p ≡ node_value (widths_of inputs) (words_of a inputs) (map (place_value a) places) n
 
 -- the places have the nodes' values wherever the clauses are true
-pub record AreNodes (b : Builder) (inputs : List (List ℕ)) (nodes : List FlatNode) (places : List Place) : Type 0 where
+pub record HaveNodeValues (b : Builder) (inputs : List (List ℕ)) (nodes : List FlatNode) (places : List Place) : Type 0 where
   pub in_range : All (HasPlace b) places
   pub sorts : map place_sort places ≡ flat_sorts (widths_of inputs) nodes
   pub means : (a : ℕ → Bool) → Holds b a → map (place_value a) places ≡ flat_values (widths_of inputs) (words_of a inputs) nodes

@@ -3,10 +3,10 @@ ghost use Rattle.std.specs.Prelude.{◌≡◌, ◌≢◌, [], ◌∷◌, length,
 ghost use Rattle.data_value.specs.declared.Op.TheVariants.{Concat};
 ghost use Rattle.data_value.specs.declared.DataSort.TheVariants.{Bits as BitsSort, Bool as BoolSort};
 ghost use Rattle.data_value.specs.Sorts.{IsWidth, IsSort, op_sort};
-ghost use Rattle.bit_gates.specs.Extends.{Grows};
+ghost use Rattle.bit_gates.specs.Grows.{Grows};
 ghost use Rattle.bit_gates.specs.Meaning.{HasLit, HasLits};
 ghost use Rattle.bv_blast.specs.declared.place.Place.TheVariants.{Flag, Word};
-ghost use Rattle.bv_blast.specs.Places.{place_sort, HasPlace, IsApplied};
+ghost use Rattle.bv_blast.specs.Places.{place_sort, HasPlace, HasOpValue};
 
 use crate::place::Place;
 use bit_gates::{Builder, NoMemory};
@@ -19,7 +19,7 @@ pub(crate) fn on_one(b: &mut Builder, op: Op, x: &Place) -> Result<Place, NoMemo
     requires x { HasPlace b.old x.now }
     requires sort { IsSort (place_sort x.now) }
     ensures extends { OnOk result (Grows b.old b.new) }
-    ensures made { IfOk result (IsApplied b.new op (x.now ∷ [])) }
+    ensures made { IfOk result (HasOpValue b.new op (x.now ∷ [])) }
 {
     match x {
         Place::Flag(x) => {
@@ -40,7 +40,7 @@ pub(crate) fn on_two(b: &mut Builder, op: Op, x: &Place, y: &Place) -> Result<Pl
     requires sort_x { IsSort (place_sort x.now) }
     requires sort_y { IsSort (place_sort y.now) }
     ensures extends { OnOk result (Grows b.old b.new) }
-    ensures made { IfOk result (IsApplied b.new op (x.now ∷ y.now ∷ [])) }
+    ensures made { IfOk result (HasOpValue b.new op (x.now ∷ y.now ∷ [])) }
 {
     match (op, x, y) {
         (_, Place::Flag(x), Place::Flag(y)) => on_flags(b, op, *x, *y),
@@ -65,7 +65,7 @@ pub(crate) fn on_three(
     requires x { HasPlace b.old x.now }
     requires y { HasPlace b.old y.now }
     ensures extends { OnOk result (Grows b.old b.new) }
-    ensures made { IfOk result (IsApplied b.new op (first.now ∷ x.now ∷ y.now ∷ [])) }
+    ensures made { IfOk result (HasOpValue b.new op (first.now ∷ x.now ∷ y.now ∷ [])) }
 {
     match (op, first, x, y) {
         (Op::Ite, Place::Flag(s), Place::Flag(x), Place::Flag(y)) => {
@@ -84,7 +84,7 @@ fn on_flags(b: &mut Builder, op: Op, x: Lit, y: Lit) -> Result<Place, NoMemory>
     requires x { HasLit b.old x }
     requires y { HasLit b.old y }
     ensures extends { OnOk result (Grows b.old b.new) }
-    ensures made { IfOk result (IsApplied b.new op (Flag x ∷ Flag y ∷ [])) }
+    ensures made { IfOk result (HasOpValue b.new op (Flag x ∷ Flag y ∷ [])) }
 {
     match op {
         Op::And => Ok(Place::Flag(bit_gates::and(b, x, y)?)),
@@ -100,7 +100,7 @@ fn on_word(b: &mut Builder, op: Op, x: &[Lit]) -> Result<Place, NoMemory>
     requires x { HasLits b.old x.now }
     requires width { IsWidth (length x.now) }
     ensures extends { OnOk result (Grows b.old b.new) }
-    ensures made { IfOk result (IsApplied b.new op (Word x.now ∷ [])) }
+    ensures made { IfOk result (HasOpValue b.new op (Word x.now ∷ [])) }
 {
     match op {
         Op::BvNot => Ok(Place::Word(bit_gates::not_word(b, x)?)),
@@ -123,7 +123,7 @@ fn on_words(b: &mut Builder, op: Op, x: &[Lit], y: &[Lit]) -> Result<Place, NoMe
     requires same { length y.now ≡ length x.now }
     requires other { op ≢ Concat }
     ensures extends { OnOk result (Grows b.old b.new) }
-    ensures made { IfOk result (IsApplied b.new op (Word x.now ∷ Word y.now ∷ [])) }
+    ensures made { IfOk result (HasOpValue b.new op (Word x.now ∷ Word y.now ∷ [])) }
 {
     match op {
         Op::Eq => Ok(Place::Flag(bit_gates::equal(b, x, y)?)),

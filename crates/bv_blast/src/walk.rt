@@ -5,10 +5,10 @@ ghost use Rattle.data_value.specs.declared.DataSort.TheVariants.{Bool as BoolSor
 ghost use Rattle.data_value.specs.Sorts.{IsSort, op_sort};
 ghost use Rattle.data_value.specs.Values.{IsScalar};
 ghost use Rattle.data_value.specs.Flat.{at_places, node_sort, HaveSorts};
-ghost use Rattle.bit_gates.specs.Extends.{Grows};
+ghost use Rattle.bit_gates.specs.Grows.{Grows};
 ghost use Rattle.bv_blast.specs.declared.place.Place.TheVariants.{Flag};
 ghost use Rattle.bv_blast.specs.Inputs.{IsBits, positive, widths_of};
-ghost use Rattle.bv_blast.specs.Places.{place_sort, HasPlace, IsApplied, IsFixed, IsNode, AreNodes};
+ghost use Rattle.bv_blast.specs.Places.{place_sort, HasPlace, HasOpValue, HasValue, HasNodeValue, HaveNodeValues};
 ghost use Rattle.bv_blast.specs.Circuits.{IsCircuitOf};
 
 use crate::inputs::fresh_inputs;
@@ -46,7 +46,7 @@ fn blast_nodes(
     requires inputs { All (IsBits b.old.clauses.vars) inputs.now }
     requires lawful { HaveSorts (widths_of inputs.now) nodes.now }
     ensures extends { OnOk result (Grows b.old b.new) }
-    ensures made { IfOk result (AreNodes b.new inputs.now nodes.now) }
+    ensures made { IfOk result (HaveNodeValues b.new inputs.now nodes.now) }
 {
     let mut places = Items::new(alloc);
     for node in nodes {
@@ -69,7 +69,7 @@ fn blast_node(
     requires sorts { All IsSort (map place_sort places.now) }
     requires lawful { IsSome (node_sort (widths_of inputs.now) (map place_sort places.now) node.now) }
     ensures extends { OnOk result (Grows b.old b.new) }
-    ensures made { IfOk result (IsNode b.new inputs.now places.now node.now) }
+    ensures made { IfOk result (HasNodeValue b.new inputs.now places.now node.now) }
 {
     match node {
         FlatNode::Input(i) => Ok(Place::Word(positive_word(alloc, inputs[*i].as_slice())?)),
@@ -95,7 +95,7 @@ fn positive_word(alloc: Global, bits: &[usize]) -> Result<Word, NoMemory>
 /// The literals of a fixed value.
 fn fixed(b: &Builder, scalar: Scalar) -> Result<Place, NoMemory>
     requires { IsScalar scalar }
-    ensures { IfOk result (IsFixed b.now scalar) }
+    ensures { IfOk result (HasValue b.now scalar) }
 {
     match scalar {
         Scalar::Flag(value) => Ok(Place::Flag(constant(value))),
@@ -111,7 +111,7 @@ fn apply(b: &mut Builder, op: Op, places: &[Place], args: &[usize]) -> Result<Pl
     requires places { All (HasPlace b.old) places.now }
     requires sorts { All IsSort (map place_sort places.now) }
     ensures extends { OnOk result (Grows b.old b.new) }
-    ensures made { IfOk result (λ p. (d : Place) → IsApplied b.new op (at_places d places.now args.now) p) }
+    ensures made { IfOk result (λ p. (d : Place) → HasOpValue b.new op (at_places d places.now args.now) p) }
 {
     match args {
         [i] => on_one(b, op, &places[*i]),

@@ -10,23 +10,23 @@ use Rattle.refute_check.specs.Derived.{Derived, base_of, clause_at, chained, Mak
 use Rattle.clause_search.specs.declared.propagation.Forced.{Forced}
 use Rattle.clause_search.specs.Partial.{falsifies, false_but, with_lit}
 use Rattle.clause_search.specs.Forcing.{Leads}
-use Rattle.clause_search.specs.Branches.{Grows, IsFalse}
+use Rattle.clause_search.specs.Branches.{AddsClauses, IsFalse, IsFalseWithout}
 use Rattle.clause_search.proofs.PartialLemmas.{flipped_twice}
 use Rattle.clause_search.proofs.ClauseLemmas.{false_with, false_absent, resolvent_false, false_at_first}
 use Rattle.clause_search.proofs.ForcingLemmas.{Last, leads_pop}
 
-pub grows_trans : (d e f : Derived) → Grows d e → Grows e f → Grows d f
+pub grows_trans : (d e f : Derived) → AddsClauses d e → AddsClauses e f → AddsClauses d f
 grows_trans d e f g h = record {
   more = g.more ++ h.more;
   clauses = h.clauses ∙ ap (λ (cs : List (List Lit)). cs ++ h.more) g.clauses ∙ append_assoc d.clauses g.more h.more;
   base = h.base ∙ g.base;
 }
 
-pub grows_length : (d e : Derived) → Grows d e → length d.clauses ≤ length e.clauses
+pub grows_length : (d e : Derived) → AddsClauses d e → length d.clauses ≤ length e.clauses
 grows_length d e g = let l : length e.clauses ≡ length (d.clauses ++ g.more) = ap length g.clauses in omega (arith, length-append d.clauses g.more)
 
 -- earlier clauses stay
-pub grows_at : (d e : Derived) (k : ℕ) → Grows d e → k < length d.clauses → clause_at e.clauses k ≡ clause_at d.clauses k
+pub grows_at : (d e : Derived) (k : ℕ) → AddsClauses d e → k < length d.clauses → clause_at e.clauses k ≡ clause_at d.clauses k
 grows_at d e k g h = ap (λ (cs : List (List Lit)). clause_at cs k) g.clauses ∙ get_or_append_left d.clauses g.more [] k h
 
 -- base clauses come first
@@ -69,7 +69,7 @@ pub record Back (cs : List (List Lit)) (p : List (Option Bool)) (fs : List Force
   pub falsified : IsFalse d at k
 
 -- one forced literal less
-pub back_step : (cs : List (List Lit)) (p : List (Option Bool)) (whole front : List Forced) (f : Forced) (d e : Derived) (last k : ℕ) → base_of d ≡ cs → whole ≡ front ++ f ∷ [] → ((q : List (Option Bool)) → false_but q (flipped f.lit) (clause_at d.clauses last) ≡ true → false_but q f.lit (clause_at d.clauses f.clause) ≡ true → IsFalse e q k) → Back cs p whole d last → Back cs p front e k
+pub back_step : (cs : List (List Lit)) (p : List (Option Bool)) (whole front : List Forced) (f : Forced) (d e : Derived) (last k : ℕ) → base_of d ≡ cs → whole ≡ front ++ f ∷ [] → IsFalseWithout e f.lit (clause_at d.clauses last) (clause_at d.clauses f.clause) k → Back cs p whole d last → Back cs p front e k
 back_step cs p whole front f d e last k b w h back =
     let l : Leads cs p (front ++ f ∷ []) back.at = subst (λ (fs : List Forced). Leads cs p fs back.at) w back.leads in
     let r : Last cs p front f back.at = leads_pop cs p front f back.at l in

@@ -1,10 +1,10 @@
 //! Clauses that a branch's assignment makes false, taken back to where the branch began.
-ghost use Rattle.std.specs.Prelude.{◌≡◌, ◌<◌, Option, Bool, true, List, None, All, length, IfOk, OnOk};
+ghost use Rattle.std.specs.Prelude.{◌≡◌, ◌<◌, Option, Bool, List, None, All, length, IfOk, OnOk};
 ghost use Rattle.refute_check.specs.Truth.{flipped};
 ghost use Rattle.refute_check.specs.Derived.{base_of, clause_at};
-ghost use Rattle.clause_search.specs.Partial.{lit_value, false_but, with_lit};
+ghost use Rattle.clause_search.specs.Partial.{lit_value, with_lit};
 ghost use Rattle.clause_search.specs.Forcing.{Leads};
-ghost use Rattle.clause_search.specs.Branches.{Grows, IsFalse, IsBranch, IsNumbered};
+ghost use Rattle.clause_search.specs.Branches.{AddsClauses, IsFalse, IsFalseWithout, IsBranch, IsNumbered};
 
 use crate::branch::Branch;
 use crate::propagation::{Reached, Trail};
@@ -21,9 +21,10 @@ pub(crate) fn without(
 ) -> Result<usize, NoMemory>
     requires falsified { falsified < length derivation.old.clauses }
     requires reason { reason < length derivation.old.clauses }
-    ensures grows { OnOk result (Grows derivation.old derivation.new) }
+    ensures grows { OnOk result (AddsClauses derivation.old derivation.new) }
     ensures number { IfOk result (λ k. k < length derivation.new.clauses) }
-    ensures falsified { IfOk result (λ k. (p : List (Option Bool)) → false_but p (flipped lit) (clause_at derivation.old.clauses falsified) ≡ true → false_but p lit (clause_at derivation.old.clauses reason) ≡ true → IsFalse derivation.new p k) }
+    ensures falsified { IfOk result (IsFalseWithout derivation.new lit
+        (clause_at derivation.old.clauses falsified) (clause_at derivation.old.clauses reason)) }
 {
     let opposite = lit.flip();
     if !derivation.clause(falsified).has(opposite) {
@@ -47,8 +48,10 @@ pub(crate) fn join(
 ) -> Result<Branch, NoMemory>
     requires first { first < length derivation.old.clauses }
     requires second { IsNumbered derivation.old second }
-    ensures grows { OnOk result (Grows derivation.old derivation.new) }
-    ensures branch { IfOk result (λ b. (p : List (Option Bool)) → lit_value p lit ≡ None → lit.var < length p → IsFalse derivation.old (with_lit p lit) first → IsBranch derivation.old (with_lit p (flipped lit)) second → IsBranch derivation.new p b) }
+    ensures grows { OnOk result (AddsClauses derivation.old derivation.new) }
+    ensures branch { IfOk result (λ b. (p : List (Option Bool)) → lit_value p lit ≡ None → lit.var < length p →
+        IsFalse derivation.old (with_lit p lit) first → IsBranch derivation.old (with_lit p (flipped lit)) second →
+        IsBranch derivation.new p b) }
 {
     match second {
         Branch::Model(model) => Ok(Branch::Model(model)),
@@ -70,8 +73,10 @@ pub(crate) fn settle(
 ) -> Result<Branch, NoMemory>
     requires branch { IsNumbered derivation.old branch }
     requires trail { All (λ f. f.clause < length derivation.old.clauses) reached.trail }
-    ensures grows { OnOk result (Grows derivation.old derivation.new) }
-    ensures branch { IfOk result (λ b. (p : List (Option Bool)) → Leads (base_of derivation.old) p reached.trail reached.partial → IsBranch derivation.old reached.partial branch → IsBranch derivation.new p b) }
+    ensures grows { OnOk result (AddsClauses derivation.old derivation.new) }
+    ensures branch { IfOk result (λ b. (p : List (Option Bool)) →
+        Leads (base_of derivation.old) p reached.trail reached.partial → IsBranch derivation.old reached.partial branch →
+        IsBranch derivation.new p b) }
 {
     match branch {
         Branch::Model(model) => Ok(Branch::Model(model)),
@@ -86,8 +91,9 @@ pub(crate) fn settle(
 fn undo(derivation: &mut Derivation, mut trail: Trail, falsified: usize) -> Result<usize, NoMemory>
     requires falsified { falsified < length derivation.old.clauses }
     requires trail { All (λ f. f.clause < length derivation.old.clauses) trail }
-    ensures grows { OnOk result (Grows derivation.old derivation.new) }
-    ensures falsified { IfOk result (λ k. (p q : List (Option Bool)) → Leads (base_of derivation.old) p trail q → IsFalse derivation.old q falsified → IsFalse derivation.new p k) }
+    ensures grows { OnOk result (AddsClauses derivation.old derivation.new) }
+    ensures falsified { IfOk result (λ k. (p q : List (Option Bool)) →
+        Leads (base_of derivation.old) p trail q → IsFalse derivation.old q falsified → IsFalse derivation.new p k) }
 {
     let mut last = falsified;
     while let Some(forced) = trail.pop() {

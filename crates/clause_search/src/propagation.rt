@@ -52,7 +52,9 @@ pub(crate) fn propagate(
 /// Goes over the clauses once, and says whether to go on.
 fn pass(clauses: &Clauses, reached: &mut Reached) -> Result<bool, NoMemory>
     requires { length reached.old.partial ≡ clauses.now.vars }
-    ensures leads { OnOk result ((p : List (Option Bool)) → Leads clauses.now.list p reached.old.trail reached.old.partial → Leads clauses.now.list p reached.new.trail reached.new.partial) }
+    ensures leads { OnOk result ((p : List (Option Bool)) →
+        Leads clauses.now.list p reached.old.trail reached.old.partial →
+        Leads clauses.now.list p reached.new.trail reached.new.partial) }
     ensures vars { OnOk result (length reached.new.partial ≡ clauses.now.vars) }
     ensures farther { OnOk result (open_count reached.new.partial ≤ open_count reached.old.partial) }
     ensures nearer { IfOk result (λ more. IsTrue more → open_count reached.new.partial < open_count reached.old.partial) }

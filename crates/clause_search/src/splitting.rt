@@ -2,7 +2,7 @@
 ghost use Rattle.std.specs.Prelude.{◌≡◌, ◌<◌, None, length, IfOk, OnOk};
 ghost use Rattle.refute_check.specs.Derived.{base_of};
 ghost use Rattle.clause_search.specs.Partial.{lit_value, with_lit};
-ghost use Rattle.clause_search.specs.Branches.{Grows, IsBranch};
+ghost use Rattle.clause_search.specs.Branches.{AddsClauses, IsBranch};
 
 use crate::branch::Branch;
 use crate::conflict::{join, settle};
@@ -23,7 +23,7 @@ pub(crate) fn solve(
 ) -> Result<Branch, NoMemory>
     requires base { base_of derivation.old ≡ clauses.now.list }
     requires vars { length start.now ≡ clauses.now.vars }
-    ensures grows { OnOk result (Grows derivation.old derivation.new) }
+    ensures grows { OnOk result (AddsClauses derivation.old derivation.new) }
     ensures branch { IfOk result (λ b. IsBranch derivation.new start.now b) }
 {
     let reached = propagate(alloc, clauses, start)?;
@@ -41,7 +41,7 @@ fn split(
 ) -> Result<Branch, NoMemory>
     requires base { base_of derivation.old ≡ clauses.now.list }
     requires vars { length partial.now ≡ clauses.now.vars }
-    ensures grows { OnOk result (Grows derivation.old derivation.new) }
+    ensures grows { OnOk result (AddsClauses derivation.old derivation.new) }
     ensures branch { IfOk result (λ b. IsBranch derivation.new partial.now b) }
 {
     match overview_of(partial, clauses) {
@@ -71,7 +71,7 @@ fn other_side(
     requires var { lit.var < length partial.now }
     requires undecided { lit_value partial.now lit ≡ None }
     requires first { IsBranch derivation.old (with_lit partial.now lit) first }
-    ensures grows { OnOk result (Grows derivation.old derivation.new) }
+    ensures grows { OnOk result (AddsClauses derivation.old derivation.new) }
     ensures branch { IfOk result (λ b. IsBranch derivation.new partial.now b) }
 {
     match first {

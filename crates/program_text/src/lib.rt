@@ -3,6 +3,7 @@
 
 ghost use Rattle.std.specs.Prelude.{◌≡◌, List, [], map, IfOk, IsErrOf};
 ghost use Rattle.rule_text.specs.declared.error.LoadError.{LoadError};
+ghost use Rattle.rule_text.specs.Unread.{UnreadOnlyIfNone};
 ghost use Rattle.sort_term.specs.Step.{Tables};
 ghost use Rattle.program_text.specs.Text.{IsProgramText};
 
@@ -23,7 +24,7 @@ pub fn load_program<S: Side>(
     bytes: &[u8],
 ) -> Result<Program<S>, LoadError>
     ensures ok { IfOk result (IsProgramText semantics.now bytes.now) }
-    ensures unread { IsErrOf result LoadError.Unread → (program : Tables) → ¬ IsProgramText semantics.now bytes.now program }
+    ensures unread { UnreadOnlyIfNone result (IsProgramText semantics.now bytes.now) }
 {
     read_items(alloc, FileKind::Program, bytes)?;
     let rows = no_rows(alloc, semantics)?;

@@ -13,7 +13,8 @@ use Rattle.rule_text.specs.declared.tree.Place.TheVariants.{Pattern, Expression}
 use Rattle.rule_text.specs.declared.item.RawTree.{RawTree, RawTree-F, out-RawTree, roll-RawTree, roll-out-RawTree, fold-RawTree, fold-roll-RawTree}
 use Rattle.rule_text.specs.declared.item.RawTree.TheVariants.{Word, Number, Bits, Con, Op, rolls-Word, rolls-Number, rolls-Bits, rolls-Con, rolls-Op}
 use Rattle.rule_text.proofs.Plain.{same_word, same_number, same_list, word_no_number, word_no_list, number_no_list}
-use Rattle.rule_text.proofs.Lists.{AllPass_of, not_true, and_left, and_right}
+use Rattle.sexp_text.proofs.Truth.{and_left, and_right, not_true}
+use Rattle.rule_text.proofs.Lists.{AllPass_of}
 
 -- what a fold gives for each kind
 module _ (A : Type 0) (node : RawTree-F A → A) where

@@ -15,7 +15,7 @@ use Rattle.rule_text.specs.declared.tree.Place.{Place}
 use Rattle.rule_text.specs.declared.item.RawTree.{RawTree}
 use Rattle.rule_text.specs.declared.item.RawTree.TheVariants.{Con, Op}
 use Rattle.rule_text.proofs.Plain.{same_word, same_number}
-use Rattle.rule_text.proofs.Lists.{and_left, and_right}
+use Rattle.sexp_text.proofs.Truth.{and_left, and_right, or_cases}
 use Rattle.rule_text.proofs.Trees.{fold-Word, fold-Number, fold-Bits, fold-Con, fold-Op, by_kind, word_tree, number_tree, ListTree, bits, con, op, list_tree}
 use Rattle.rule_text.proofs.TreeShapes.{con_no_bits, op_no_bits}
 
@@ -44,10 +44,6 @@ word_of (x ∷ a) (y ∷ b) h =
     let first : nat_eq x y ≡ true = and_left (nat_eq x y) (bytes_eq a b) h in
     let front : x ≡ y = grind (arith, nat_tests) in
     let rest : a ≡ b = word_of a b (and_right (nat_eq x y) (bytes_eq a b) h) in cc
-
-or_cases : (a b : Bool) → (a || b) ≡ true → (a ≡ true) ⊎ (b ≡ true)
-or_cases true b h = inl refl
-or_cases false b h = inr h
 
 -- a reserved word, by its bytes
 reserved_like : (word name : List ℕ) (count wanted : ℕ) → is_reserved_word word ≡ true → (bytes_eq word name && (wanted == count)) ≡ true → is_reserved_word name ≡ true

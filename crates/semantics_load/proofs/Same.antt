@@ -23,7 +23,7 @@ use Rattle.sort_term.specs.System.{System}
 use Rattle.name_resolution.specs.Known.{Vocabulary}
 use Rattle.name_resolution.specs.Written.{IsPatternText, IsExpressionText, AreVariablesText}
 use Rattle.name_resolution.proofs.Unique.{one_pattern, one_expression, one_list_of_variables, same_values}
-use Rattle.semantics_load.specs.Declares.{Declared, nothing, known_in, with_sort, with_con, with_config, with_rule, IsConText, IsDemandText, IsRuleText, Declares}
+use Rattle.semantics_load.specs.Declares.{Declared, nothing, known_in, with_sort, with_con, with_config, with_rule, IsConText, IsDemandText, RawRule, raw_rule, IsRuleText, Declares}
 use Rattle.semantics_load.specs.Text.{Makes, AreItemsOf, IsSemanticsText}
 use Rattle.rule_text.specs.Turns.{InTurn}
 use Rattle.rule_text.proofs.Turns.{same_turns}
@@ -63,19 +63,19 @@ one_demand known vars (written.When raw) (When d) (When e) a b = ap When (one_ex
 one_demand known vars (written.When raw) (Let p s) e a b = absurd a
 one_demand known vars (written.When raw) (When d) (Let p s) a b = absurd b
 
-pub one_rule : (known : Vocabulary) (name : List ℕ) (raw_vars : List RawVar) (head : RawTree) (demands : List RawDemand) (outcome : RawTree) (r s : rule.Rule) → IsRuleText known name raw_vars head demands outcome r → IsRuleText known name raw_vars head demands outcome s → r ≡ s
-one_rule known name raw_vars head demands outcome r s a b =
-    let same_vars : r.vars ≡ s.vars = one_list_of_variables known raw_vars r.vars s.vars a.vars b.vars in
-    let same_head : r.head ≡ s.head = one_pattern known r.vars head r.head s.head a.head (subst (λ (vs : List Var). IsPatternText known vs head s.head) (sym same_vars) b.head) in
-    let same_demands : r.demands ≡ s.demands = zip_same (IsDemandText known r.vars) (one_demand known r.vars) demands r.demands s.demands a.demands (subst (λ (vs : List Var). AllZip (IsDemandText known vs) demands s.demands) (sym same_vars) b.demands) in
-    let same_result : r.result ≡ s.result = one_expression known r.vars outcome r.result s.result a.outcome (subst (λ (vs : List Var). IsExpressionText known vs outcome s.result) (sym same_vars) b.outcome) in
+pub one_rule : (known : Vocabulary) (raw : RawRule) (r s : rule.Rule) → IsRuleText known raw r → IsRuleText known raw s → r ≡ s
+one_rule known raw r s a b =
+    let same_vars : r.vars ≡ s.vars = one_list_of_variables known raw.vars r.vars s.vars a.vars b.vars in
+    let same_head : r.head ≡ s.head = one_pattern known r.vars raw.head r.head s.head a.head (subst (λ (vs : List Var). IsPatternText known vs raw.head s.head) (sym same_vars) b.head) in
+    let same_demands : r.demands ≡ s.demands = zip_same (IsDemandText known r.vars) (one_demand known r.vars) raw.demands r.demands s.demands a.demands (subst (λ (vs : List Var). AllZip (IsDemandText known vs) raw.demands s.demands) (sym same_vars) b.demands) in
+    let same_result : r.result ≡ s.result = one_expression known r.vars raw.outcome r.result s.result a.outcome (subst (λ (vs : List Var). IsExpressionText known vs raw.outcome s.result) (sym same_vars) b.outcome) in
     same_rule r s (a.named ∙ sym b.named) same_vars same_head same_demands same_result
 
 pub one_declared : (d : Declared) (i : Item) (e f : Declared) → Declares d i e → Declares d i f → e ≡ f
 one_declared d (Sort name) e f a b = a.1 ∙ sym b.1
 one_declared d (Con name args sort) e f a b = a.1.2 ∙ ap (with_con d) (one_con (known_in d) name args sort a.1.0 b.1.0 a.1.1 b.1.1) ∙ sym b.1.2
 one_declared d (Config name) e f a b = a.1.2 ∙ ap (with_config d) (same_Some a.1.0 b.1.0 (sym a.1.1 ∙ b.1.1)) ∙ sym b.1.2
-one_declared d (Rule name vars head demands outcome) e f a b = a.1.2 ∙ ap (with_rule d) (one_rule (known_in d) name vars head demands outcome a.1.0 b.1.0 a.1.1 b.1.1) ∙ sym b.1.2
+one_declared d (Rule name vars head demands outcome) e f a b = a.1.2 ∙ ap (with_rule d) (one_rule (known_in d) (raw_rule name vars head demands outcome) a.1.0 b.1.0 a.1.1 b.1.1) ∙ sym b.1.2
 one_declared d (Cut side name vars pattern) e f a b = absurd a
 one_declared d (Point name left right) e f a b = absurd a
 
@@ -100,11 +100,11 @@ when_text known vars tree (When e) text = (e, text)
 when_text known vars tree (Let p s) text = absurd text
 
 -- the same rule, by the names of its own variables
-pub head_text : (known : Vocabulary) (name : List ℕ) (raw_vars : List RawVar) (head : RawTree) (demands : List RawDemand) (outcome : RawTree) (r : rule.Rule) (vars : List Var) → AreVariablesText known raw_vars vars → IsRuleText known name raw_vars head demands outcome r → IsPatternText known vars head r.head
-head_text known name raw_vars head demands outcome r vars v text = subst (λ (vs : List Var). IsPatternText known vs head r.head) (one_list_of_variables known raw_vars r.vars vars text.vars v) text.head
+pub head_text : (known : Vocabulary) (raw : RawRule) (r : rule.Rule) (vars : List Var) → AreVariablesText known raw.vars vars → IsRuleText known raw r → IsPatternText known vars raw.head r.head
+head_text known raw r vars v text = subst (λ (vs : List Var). IsPatternText known vs raw.head r.head) (one_list_of_variables known raw.vars r.vars vars text.vars v) text.head
 
-pub demands_text : (known : Vocabulary) (name : List ℕ) (raw_vars : List RawVar) (head : RawTree) (demands : List RawDemand) (outcome : RawTree) (r : rule.Rule) (vars : List Var) → AreVariablesText known raw_vars vars → IsRuleText known name raw_vars head demands outcome r → AllZip (IsDemandText known vars) demands r.demands
-demands_text known name raw_vars head demands outcome r vars v text = subst (λ (vs : List Var). AllZip (IsDemandText known vs) demands r.demands) (one_list_of_variables known raw_vars r.vars vars text.vars v) text.demands
+pub demands_text : (known : Vocabulary) (raw : RawRule) (r : rule.Rule) (vars : List Var) → AreVariablesText known raw.vars vars → IsRuleText known raw r → AllZip (IsDemandText known vars) raw.demands r.demands
+demands_text known raw r vars v text = subst (λ (vs : List Var). AllZip (IsDemandText known vs) raw.demands r.demands) (one_list_of_variables known raw.vars r.vars vars text.vars v) text.demands
 
-pub outcome_text : (known : Vocabulary) (name : List ℕ) (raw_vars : List RawVar) (head : RawTree) (demands : List RawDemand) (outcome : RawTree) (r : rule.Rule) (vars : List Var) → AreVariablesText known raw_vars vars → IsRuleText known name raw_vars head demands outcome r → IsExpressionText known vars outcome r.result
-outcome_text known name raw_vars head demands outcome r vars v text = subst (λ (vs : List Var). IsExpressionText known vs outcome r.result) (one_list_of_variables known raw_vars r.vars vars text.vars v) text.outcome
+pub outcome_text : (known : Vocabulary) (raw : RawRule) (r : rule.Rule) (vars : List Var) → AreVariablesText known raw.vars vars → IsRuleText known raw r → IsExpressionText known vars raw.outcome r.result
+outcome_text known raw r vars v text = subst (λ (vs : List Var). IsExpressionText known vs raw.outcome r.result) (one_list_of_variables known raw.vars r.vars vars text.vars v) text.outcome

@@ -70,13 +70,24 @@ abbrev pub IsDemandText : Vocabulary → List Var → RawDemand → Demand → T
 IsDemandText known vars (written.When raw) (When e) = IsExpressionText known vars raw e
 IsDemandText known vars raw (Let p source) = ⊥
 
+-- the parts of a rule's item
+pub record RawRule : Type 0 where
+  pub name : List ℕ
+  pub vars : List RawVar
+  pub head : RawTree
+  pub demands : List RawDemand
+  pub outcome : RawTree
+
+abbrev pub raw_rule : List ℕ → List RawVar → RawTree → List RawDemand → RawTree → RawRule
+raw_rule name vars head demands outcome = record { name = name; vars = vars; head = head; demands = demands; outcome = outcome }
+
 -- a rule: its parts are what is written, by the names of its variables and of what is declared
-pub record IsRuleText (known : Vocabulary) (name : List ℕ) (raw_vars : List RawVar) (raw_head : RawTree) (raw_demands : List RawDemand) (raw_result : RawTree) (r : Rule) : Type 0 where
-  pub named : r.name ≡ name
-  pub vars : AreVariablesText known raw_vars r.vars
-  pub head : IsPatternText known r.vars raw_head r.head
-  pub demands : AllZip (IsDemandText known r.vars) raw_demands r.demands
-  pub outcome : IsExpressionText known r.vars raw_result r.result
+pub record IsRuleText (known : Vocabulary) (raw : RawRule) (r : Rule) : Type 0 where
+  pub named : r.name ≡ raw.name
+  pub vars : AreVariablesText known raw.vars r.vars
+  pub head : IsPatternText known r.vars raw.head r.head
+  pub demands : AllZip (IsDemandText known r.vars) raw.demands r.demands
+  pub outcome : IsExpressionText known r.vars raw.outcome r.result
 
 -- an item behind others that declare d: with it they declare e
 abbrev pub Declares : Declared → Item → Declared → Type 0
@@ -86,5 +97,5 @@ Declares d (item.Con name args sort) e = IsNew name (map (λ c. c.name) d.cons) 
 -- the sort of the states is told once, and has a constructor by now
 Declares d (item.Config name) e = (d.config ≡ None) × ((a : SortId) × (made_sort (known_in d) name ≡ Some a) × (e ≡ with_config d a))
 -- rules come behind it
-Declares d (item.Rule name vars head demands outcome) e = IsSome d.config × ((r : Rule) × IsRuleText (known_in d) name vars head demands outcome r × (e ≡ with_rule d r))
+Declares d (item.Rule name vars head demands outcome) e = IsSome d.config × ((r : Rule) × IsRuleText (known_in d) (raw_rule name vars head demands outcome) r × (e ≡ with_rule d r))
 Declares d i e = ⊥

@@ -1,8 +1,9 @@
 // A semantics of which some items are there. Each item may use the names of those before it alone.
-ghost use Rattle.std.specs.Prelude.{◌≡◌, List, map, Some, is_some, IfOk, IsErrOf};
+ghost use Rattle.std.specs.Prelude.{◌≡◌, map, Some, is_some, IfOk, IsErrOf};
 ghost use Rattle.std.specs.List.{AllZip};
 ghost use Rattle.rule_text.specs.declared.error.LoadError.{LoadError};
 ghost use Rattle.rule_text.specs.declared.item.Item.{Item};
+ghost use Rattle.rule_text.specs.Unread.{UnreadOnlyIfNone};
 ghost use Rattle.sort_term.specs.declared.semantics.Con.{Con};
 ghost use Rattle.sort_term.specs.declared.rule.Demand.{Demand};
 ghost use Rattle.sort_term.specs.declared.rule.Rule.{Rule};
@@ -10,7 +11,7 @@ ghost use Rattle.sort_term.specs.declared.term.Sort.{Sort};
 ghost use Rattle.sort_term.specs.System.{System};
 ghost use Rattle.name_resolution.specs.Names.{IsNew};
 ghost use Rattle.name_resolution.specs.Known.{vocabulary_of, sort_of};
-ghost use Rattle.semantics_load.specs.Declares.{Declared, Declares, IsConText, IsRuleText, IsDemandText, known_in, nothing, with_sort, with_con, with_config, with_rule};
+ghost use Rattle.semantics_load.specs.Declares.{Declared, Declares, IsConText, raw_rule, IsRuleText, IsDemandText, known_in, nothing, with_sort, with_con, with_config, with_rule};
 ghost use Rattle.semantics_load.specs.Text.{Makes};
 
 use name_resolution::{Known, NameTable, Variables, declared_variables, expression, pattern};
@@ -66,7 +67,7 @@ impl Draft {
     /// The draft with the next item. `Unread` exactly where the item may not stand behind those before it.
     pub fn add(self, alloc: Global, item: &Item) -> Result<Draft, LoadError>
         ensures ok { IfOk result (Declares self item.now) }
-        ensures unread { IsErrOf result LoadError.Unread → (d : Declared) → ¬ Declares self item.now d }
+        ensures unread { UnreadOnlyIfNone result (Declares self item.now) }
     {
         match item {
             Item::Sort(name) => self.with_sort(alloc, name),
@@ -94,7 +95,7 @@ impl Draft {
     /// whole doesn't pass its checks.
     pub fn finish<S: Side>(self, alloc: Global) -> Result<Semantics<S>, LoadError>
         ensures ok { IfOk result (Makes self) }
-        ensures unread { IsErrOf result LoadError.Unread → (s : System) → ¬ Makes self s }
+        ensures unread { UnreadOnlyIfNone result (Makes self) }
     {
         let Draft {
             sort_names: _,
@@ -141,7 +142,7 @@ impl Draft {
     // One more sort, of a new name.
     fn with_sort(self, alloc: Global, name: &Name) -> Result<Draft, LoadError>
         ensures ok { IfOk result (Declares self (Item.Sort name.now)) }
-        ensures unread { IsErrOf result LoadError.Unread → (d : Declared) → ¬ Declares self (Item.Sort name.now) d }
+        ensures unread { UnreadOnlyIfNone result (Declares self (Item.Sort name.now)) }
     {
         let Draft {
             mut sort_names,
@@ -172,7 +173,7 @@ impl Draft {
         sort: &Name,
     ) -> Result<Draft, LoadError>
         ensures ok { IfOk result (Declares self (Item.Con name.now args.now sort.now)) }
-        ensures unread { IsErrOf result LoadError.Unread → (d : Declared) → ¬ Declares self (Item.Con name.now args.now sort.now) d }
+        ensures unread { UnreadOnlyIfNone result (Declares self (Item.Con name.now args.now sort.now)) }
     {
         let con = con(alloc, &self.known(), name, args, sort)?;
         self.and_con(alloc, con)
@@ -206,9 +207,9 @@ impl Draft {
     // The sort of the states, where it wasn't told before.
     fn with_config(self, name: &Name) -> Result<Draft, LoadError>
         ensures ok { IfOk result (Declares self (Item.Config name.now)) }
-        ensures unread { IsErrOf result LoadError.Unread → (d : Declared) → ¬ Declares self (Item.Config name.now) d }
+        ensures unread { UnreadOnlyIfNone result (Declares self (Item.Config name.now)) }
     {
-        if self.state_sort.is_some() {
+        if self.has_config() {
             return Err(LoadError::Unread);
         }
         let Some(sort) = self.known().inhabited(name) else {
@@ -230,7 +231,7 @@ impl Draft {
         outcome: &RawTree,
     ) -> Result<Draft, LoadError>
         ensures ok { IfOk result (Declares self (Item.Rule name.now vars.now head.now demands.now outcome.now)) }
-        ensures unread { IsErrOf result LoadError.Unread → (d : Declared) → ¬ Declares self (Item.Rule name.now vars.now head.now demands.now outcome.now) d }
+        ensures unread { UnreadOnlyIfNone result (Declares self (Item.Rule name.now vars.now head.now demands.now outcome.now)) }
     {
         if !self.has_config() {
             return Err(LoadError::Unread);
@@ -259,7 +260,7 @@ fn con(
     sort: &Name,
 ) -> Result<Con, LoadError>
     ensures ok { IfOk result (IsConText (vocabulary_of known.now) name.now args.now sort.now) }
-    ensures unread { IsErrOf result LoadError.Unread → (c : Con) → ¬ IsConText (vocabulary_of known.now) name.now args.now sort.now c }
+    ensures unread { UnreadOnlyIfNone result (IsConText (vocabulary_of known.now) name.now args.now sort.now) }
 {
     let Some(sort) = known.declared(sort) else {
         return Err(LoadError::Unread);
@@ -274,7 +275,7 @@ fn con(
 // The sorts of the arguments of a constructor.
 fn argument_sorts(alloc: Global, known: &Known<'_>, raws: &[RawSort]) -> Result<Sorts, LoadError>
     ensures ok { IfOk result (λ sorts. map (sort_of (vocabulary_of known.now)) raws.now ≡ map Some sorts) }
-    ensures unread { IsErrOf result LoadError.Unread → (sorts : List Sort) → ¬ (map (sort_of (vocabulary_of known.now)) raws.now ≡ map Some sorts) }
+    ensures unread { UnreadOnlyIfNone result (λ sorts. map (sort_of (vocabulary_of known.now)) raws.now ≡ map Some sorts) }
 {
     let mut sorts = Items::new(alloc);
     for raw in raws {
@@ -296,8 +297,9 @@ fn rule(
     demands: &[RawDemand],
     outcome: &RawTree,
 ) -> Result<Rule, LoadError>
-    ensures ok { IfOk result (IsRuleText (vocabulary_of known.now) name.now vars.now head.now demands.now outcome.now) }
-    ensures unread { IsErrOf result LoadError.Unread → (r : Rule) → ¬ IsRuleText (vocabulary_of known.now) name.now vars.now head.now demands.now outcome.now r }
+    ensures ok { IfOk result (IsRuleText (vocabulary_of known.now) (raw_rule name.now vars.now head.now demands.now outcome.now)) }
+    ensures unread { UnreadOnlyIfNone result
+        (IsRuleText (vocabulary_of known.now) (raw_rule name.now vars.now head.now demands.now outcome.now)) }
 {
     let variables = declared_variables(alloc, known, vars)?;
     let head = pattern(alloc, known, &variables, head)?;
@@ -320,7 +322,7 @@ fn conditions(
     raws: &[RawDemand],
 ) -> Result<Demands, LoadError>
     ensures ok { IfOk result (AllZip (IsDemandText (vocabulary_of known.now) variables.now) raws.now) }
-    ensures unread { IsErrOf result LoadError.Unread → (demands : List Demand) → ¬ AllZip (IsDemandText (vocabulary_of known.now) variables.now) raws.now demands }
+    ensures unread { UnreadOnlyIfNone result (AllZip (IsDemandText (vocabulary_of known.now) variables.now) raws.now) }
 {
     let mut demands = Items::new(alloc);
     for raw in raws {
@@ -337,7 +339,7 @@ fn condition(
     raw: &RawDemand,
 ) -> Result<Demand, LoadError>
     ensures ok { IfOk result (IsDemandText (vocabulary_of known.now) variables.now raw.now) }
-    ensures unread { IsErrOf result LoadError.Unread → (d : Demand) → ¬ IsDemandText (vocabulary_of known.now) variables.now raw.now d }
+    ensures unread { UnreadOnlyIfNone result (IsDemandText (vocabulary_of known.now) variables.now raw.now) }
 {
     match raw {
         RawDemand::When(tree) => Ok(Demand::When(expression(alloc, known, variables, tree)?)),

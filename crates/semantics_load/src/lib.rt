@@ -5,6 +5,7 @@ ghost use Rattle.std.specs.Prelude.{IfOk, IsErrOf};
 ghost use Rattle.rule_text.specs.declared.error.LoadError.{LoadError};
 ghost use Rattle.rule_text.specs.declared.item.Item.{Item};
 ghost use Rattle.rule_text.specs.Turns.{InTurn};
+ghost use Rattle.rule_text.specs.Unread.{UnreadOnlyIfNone};
 ghost use Rattle.sort_term.specs.System.{System};
 ghost use Rattle.sort_term.specs.Rules.{IsSemantics};
 ghost use Rattle.semantics_load.specs.Declares.{Declared, nothing, Declares};
@@ -25,7 +26,7 @@ use std::alloc::Global;
 /// Want of memory is the only other answer.
 pub fn load<S: Side>(alloc: Global, bytes: &[u8]) -> Result<Semantics<S>, LoadError>
     ensures ok { IfOk result (IsSemanticsText bytes.now) }
-    ensures unread { IsErrOf result LoadError.Unread → (s : System) → ¬ IsSemanticsText bytes.now s }
+    ensures unread { UnreadOnlyIfNone result (IsSemanticsText bytes.now) }
 {
     let items = read_items(alloc, FileKind::Semantics, bytes)?;
     semantics(alloc, items.as_slice())
@@ -34,7 +35,7 @@ pub fn load<S: Side>(alloc: Global, bytes: &[u8]) -> Result<Semantics<S>, LoadEr
 // The semantics that the items make.
 fn semantics<S: Side>(alloc: Global, items: &[Item]) -> Result<Semantics<S>, LoadError>
     ensures ok { IfOk result (AreItemsOf items.now) }
-    ensures unread { IsErrOf result LoadError.Unread → (s : System) → ¬ AreItemsOf items.now s }
+    ensures unread { UnreadOnlyIfNone result (AreItemsOf items.now) }
 {
     let draft = declared(alloc, items)?;
     draft.finish(alloc)
@@ -43,7 +44,7 @@ fn semantics<S: Side>(alloc: Global, items: &[Item]) -> Result<Semantics<S>, Loa
 // What the items declare.
 fn declared(alloc: Global, items: &[Item]) -> Result<Draft, LoadError>
     ensures ok { IfOk result (InTurn Declares nothing items.now) }
-    ensures unread { IsErrOf result LoadError.Unread → (d : Declared) → ¬ InTurn Declares nothing items.now d }
+    ensures unread { UnreadOnlyIfNone result (InTurn Declares nothing items.now) }
 {
     let mut draft = Draft::new(alloc);
     for item in items {

@@ -9,7 +9,8 @@ ghost use Rattle.sexp_text.specs.declared.form.Form.{Form};
 
 /// A text spells at most one list of forms, spans included.
 pub fn spelling_is_unique()
-    ensures { (bytes : List ℕ) (fs gs : List Form) → Spells bytes fs 0 (length bytes) → Spells bytes gs 0 (length bytes) → fs ≡ gs }
+    ensures { (bytes : List ℕ) (fs gs : List Form) →
+        Spells bytes fs 0 (length bytes) → Spells bytes gs 0 (length bytes) → fs ≡ gs }
 {}
 
 /// A text of the grammar has no fault, so [`crate::read`] refuses none but for want of memory.
@@ -27,5 +28,7 @@ pub fn faults_are_apart()
 /// one with it or without it, in at most 1,048,576 bytes. Then the text is in the grammar, with the same forms but for
 /// spans; so [`crate::read`] answers these, or that there was no memory.
 pub fn printed_forms_are_read()
-    ensures { (bytes : List ℕ) (forms : List Form) → ArePrintable forms → IsPrinted bytes forms → length bytes ≤ 1048576 → (again : List Form) × IsText bytes again × (map without_spans again ≡ map without_spans forms) }
+    ensures { (bytes : List ℕ) (forms : List Form) →
+        ArePrintable forms → IsPrinted bytes forms → length bytes ≤ 1048576 →
+        (again : List Form) × IsText bytes again × (map without_spans again ≡ map without_spans forms) }
 {}

@@ -43,7 +43,10 @@ impl Tree {
 
     /// Opens a list whose `(` stands at the offset.
     pub fn begin(&mut self, alloc: Global, start: usize) -> Result<(), NoMemory>
-        ensures { OnOk result (self.new ≡ record self.old { outer = self.old.outer ++ record { start = start; before = self.old.forms } ∷ []; forms = [] }) }
+        ensures { OnOk result (self.new ≡ record self.old {
+          outer = self.old.outer ++ record { start = start; before = self.old.forms } ∷ [];
+          forms = [];
+        }) }
     {
         let before = mem::replace(&mut self.forms, Items::new(alloc));
         self.outer.push(Open { start, before })?;

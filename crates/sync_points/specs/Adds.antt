@@ -11,7 +11,8 @@ use Rattle.sort_term.specs.declared.points.Points.{Points}
 use Rattle.sort_term.specs.declared.term.Left.{Left}
 use Rattle.sort_term.specs.declared.term.Right.{Right}
 use Rattle.sort_term.specs.System.{System}
-use Rattle.name_resolution.specs.Known.{Vocabulary}
+use Rattle.name_resolution.specs.declared.known.Known.{Known}
+use Rattle.name_resolution.specs.Known.{Vocabulary, vocabulary_of}
 use Rattle.name_resolution.specs.Written.{IsPatternText, IsExpressionText, AreVariablesText}
 
 -- no cuts and no points
@@ -21,6 +22,17 @@ nothing = record { left_cuts = []; right_cuts = []; points = [] }
 -- what the items may name of a semantics: all its sorts and constructors
 abbrev pub known_of : System → Vocabulary
 known_of s = record { sorts = s.sorts; cons = s.cons }
+
+-- what the items may name of the left semantics, and of the right one
+pub record Vocabularies : Type 0 where
+  pub left : Vocabulary
+  pub right : Vocabulary
+
+abbrev pub vocabularies_of : Known → Known → Vocabularies
+vocabularies_of left right = record { left = vocabulary_of left; right = vocabulary_of right }
+
+abbrev pub known_of_both : System → System → Vocabularies
+known_of_both left right = record { left = known_of left; right = known_of right }
 
 -- one thing more
 abbrev pub with_left : Points → Cut Left → Points
@@ -40,26 +52,26 @@ pub record IsCutText {S : Type 0} (known : Vocabulary) (name : List ℕ) (raw_va
   pub no_whens : c.whens ≡ []
 
 -- a point, without variables and conditions: its terms are what is written, each by the names of its side's semantics
-pub record IsPointText (left right : Vocabulary) (name : List ℕ) (left_raw right_raw : RawTree) (p : Point) : Type 0 where
+pub record IsPointText (known : Vocabularies) (name : List ℕ) (left_raw right_raw : RawTree) (p : Point) : Type 0 where
   pub named : p.name ≡ name
   pub no_vars : p.vars ≡ []
-  pub left_term : IsExpressionText left [] left_raw p.left
-  pub right_term : IsExpressionText right [] right_raw p.right
+  pub left_term : IsExpressionText known.left [] left_raw p.left
+  pub right_term : IsExpressionText known.right [] right_raw p.right
   pub no_whens : p.whens ≡ []
 
--- with this item of a cut, or this point, behind others that make d, they make e
-abbrev pub AddsLeft : Vocabulary → Points → List ℕ → List RawVar → RawTree → Points → Type 0
-AddsLeft known d name vars raw e = (c : Cut Left) × IsCutText known name vars raw c × (e ≡ with_left d c)
+-- with one item of the left or the right cut, or one point, which is as told, behind others that make d, they make e
+abbrev pub AddsLeft : Points → (Cut Left → Type 0) → Points → Type 0
+AddsLeft d IsTold e = (c : Cut Left) × IsTold c × (e ≡ with_left d c)
 
-abbrev pub AddsRight : Vocabulary → Points → List ℕ → List RawVar → RawTree → Points → Type 0
-AddsRight known d name vars raw e = (c : Cut Right) × IsCutText known name vars raw c × (e ≡ with_right d c)
+abbrev pub AddsRight : Points → (Cut Right → Type 0) → Points → Type 0
+AddsRight d IsTold e = (c : Cut Right) × IsTold c × (e ≡ with_right d c)
 
-abbrev pub AddsPoint : Vocabulary → Vocabulary → Points → List ℕ → RawTree → RawTree → Points → Type 0
-AddsPoint left right d name left_raw right_raw e = (p : Point) × IsPointText left right name left_raw right_raw p × (e ≡ with_point d p)
+abbrev pub AddsPoint : Points → (Point → Type 0) → Points → Type 0
+AddsPoint d IsTold e = (p : Point) × IsTold p × (e ≡ with_point d p)
 
 -- an item behind others that make d of two semantics: with it they make e
-abbrev pub Adds : Vocabulary → Vocabulary → Points → Item → Points → Type 0
-Adds left right d (item.Cut side.Left name vars raw) e = AddsLeft left d name vars raw e
-Adds left right d (item.Cut side.Right name vars raw) e = AddsRight right d name vars raw e
-Adds left right d (item.Point name left_raw right_raw) e = AddsPoint left right d name left_raw right_raw e
-Adds left right d i e = ⊥
+abbrev pub Adds : Vocabularies → Points → Item → Points → Type 0
+Adds known d (item.Cut side.Left name vars raw) e = AddsLeft d (IsCutText known.left name vars raw) e
+Adds known d (item.Cut side.Right name vars raw) e = AddsRight d (IsCutText known.right name vars raw) e
+Adds known d (item.Point name left_raw right_raw) e = AddsPoint d (IsPointText known name left_raw right_raw) e
+Adds known d i e = ⊥

@@ -1,12 +1,12 @@
 // Cuts and points, one item after the other.
-ghost use Rattle.std.specs.Prelude.{◌≡◌, IfOk, IsErrOf};
-ghost use Rattle.rule_text.specs.declared.error.LoadError.{LoadError};
+ghost use Rattle.std.specs.Prelude.{◌≡◌, IfOk};
 ghost use Rattle.rule_text.specs.Turns.{InTurn};
+ghost use Rattle.rule_text.specs.Unread.{UnreadOnlyIfNone};
 ghost use Rattle.sort_term.specs.declared.points.Cut.{Cut};
 ghost use Rattle.sort_term.specs.declared.points.Point.{Point};
 ghost use Rattle.sort_term.specs.declared.points.Points.{Points};
 ghost use Rattle.name_resolution.specs.Known.{vocabulary_of};
-ghost use Rattle.sync_points.specs.Adds.{nothing, known_of, AddsLeft, AddsRight, AddsPoint, IsCutText, IsPointText, Adds};
+ghost use Rattle.sync_points.specs.Adds.{nothing, known_of_both, vocabularies_of, AddsLeft, AddsRight, AddsPoint, IsCutText, IsPointText, Adds};
 
 use crate::vocabulary::Vocabulary;
 use name_resolution::{Known, Variables, declared_variables, expression, pattern};
@@ -24,8 +24,8 @@ pub fn added(
     right: &Semantics<Right>,
     items: &[Item],
 ) -> Result<Points, LoadError>
-    ensures ok { IfOk result (InTurn (Adds (known_of left.now) (known_of right.now)) nothing items.now) }
-    ensures unread { IsErrOf result LoadError.Unread → (p : Points) → ¬ InTurn (Adds (known_of left.now) (known_of right.now)) nothing items.now p }
+    ensures ok { IfOk result (InTurn (Adds (known_of_both left.now right.now)) nothing items.now) }
+    ensures unread { UnreadOnlyIfNone result (InTurn (Adds (known_of_both left.now right.now)) nothing items.now) }
 {
     let left_names = Vocabulary::of(alloc, left)?;
     let right_names = Vocabulary::of(alloc, right)?;
@@ -55,8 +55,8 @@ fn with_item(
     points: Points,
     item: &Item,
 ) -> Result<Points, LoadError>
-    ensures ok { IfOk result (Adds (vocabulary_of left.now) (vocabulary_of right.now) points item.now) }
-    ensures unread { IsErrOf result LoadError.Unread → (p : Points) → ¬ Adds (vocabulary_of left.now) (vocabulary_of right.now) points item.now p }
+    ensures ok { IfOk result (Adds (vocabularies_of left.now right.now) points item.now) }
+    ensures unread { UnreadOnlyIfNone result (Adds (vocabularies_of left.now right.now) points item.now) }
 {
     match item {
         Item::Cut {
@@ -86,8 +86,8 @@ fn with_left(
     vars: &[RawVar],
     raw: &RawTree,
 ) -> Result<Points, LoadError>
-    ensures ok { IfOk result (AddsLeft (vocabulary_of known.now) points name.now vars.now raw.now) }
-    ensures unread { IsErrOf result LoadError.Unread → (p : Points) → ¬ AddsLeft (vocabulary_of known.now) points name.now vars.now raw.now p }
+    ensures ok { IfOk result (AddsLeft points (IsCutText (vocabulary_of known.now) name.now vars.now raw.now)) }
+    ensures unread { UnreadOnlyIfNone result (AddsLeft points (IsCutText (vocabulary_of known.now) name.now vars.now raw.now)) }
 {
     let mut points = points;
     let cut = cut(alloc, known, name, vars, raw)?;
@@ -104,8 +104,8 @@ fn with_right(
     vars: &[RawVar],
     raw: &RawTree,
 ) -> Result<Points, LoadError>
-    ensures ok { IfOk result (AddsRight (vocabulary_of known.now) points name.now vars.now raw.now) }
-    ensures unread { IsErrOf result LoadError.Unread → (p : Points) → ¬ AddsRight (vocabulary_of known.now) points name.now vars.now raw.now p }
+    ensures ok { IfOk result (AddsRight points (IsCutText (vocabulary_of known.now) name.now vars.now raw.now)) }
+    ensures unread { UnreadOnlyIfNone result (AddsRight points (IsCutText (vocabulary_of known.now) name.now vars.now raw.now)) }
 {
     let mut points = points;
     let cut = cut(alloc, known, name, vars, raw)?;
@@ -123,8 +123,9 @@ fn with_point(
     left_raw: &RawTree,
     right_raw: &RawTree,
 ) -> Result<Points, LoadError>
-    ensures ok { IfOk result (AddsPoint (vocabulary_of left.now) (vocabulary_of right.now) points name.now left_raw.now right_raw.now) }
-    ensures unread { IsErrOf result LoadError.Unread → (p : Points) → ¬ AddsPoint (vocabulary_of left.now) (vocabulary_of right.now) points name.now left_raw.now right_raw.now p }
+    ensures ok { IfOk result (AddsPoint points (IsPointText (vocabularies_of left.now right.now) name.now left_raw.now right_raw.now)) }
+    ensures unread { UnreadOnlyIfNone result
+        (AddsPoint points (IsPointText (vocabularies_of left.now right.now) name.now left_raw.now right_raw.now)) }
 {
     let mut points = points;
     let point = point(alloc, left, right, name, left_raw, right_raw)?;
@@ -141,7 +142,7 @@ fn cut<S: Side>(
     raw: &RawTree,
 ) -> Result<Cut<S>, LoadError>
     ensures ok { IfOk result (IsCutText (vocabulary_of known.now) name.now vars.now raw.now) }
-    ensures unread { IsErrOf result LoadError.Unread → (c : Cut S) → ¬ IsCutText (vocabulary_of known.now) name.now vars.now raw.now c }
+    ensures unread { UnreadOnlyIfNone result (IsCutText (vocabulary_of known.now) name.now vars.now raw.now) }
 {
     let variables = declared_variables(alloc, known, vars)?;
     let pattern = pattern(alloc, known, &variables, raw)?;
@@ -163,8 +164,8 @@ fn point(
     left_raw: &RawTree,
     right_raw: &RawTree,
 ) -> Result<Point, LoadError>
-    ensures ok { IfOk result (IsPointText (vocabulary_of left.now) (vocabulary_of right.now) name.now left_raw.now right_raw.now) }
-    ensures unread { IsErrOf result LoadError.Unread → (p : Point) → ¬ IsPointText (vocabulary_of left.now) (vocabulary_of right.now) name.now left_raw.now right_raw.now p }
+    ensures ok { IfOk result (IsPointText (vocabularies_of left.now right.now) name.now left_raw.now right_raw.now) }
+    ensures unread { UnreadOnlyIfNone result (IsPointText (vocabularies_of left.now right.now) name.now left_raw.now right_raw.now) }
 {
     let variables = Variables::none(alloc);
     let left = expression(alloc, left, &variables, left_raw)?;

@@ -6,5 +6,6 @@ ghost use Rattle.sync_points.specs.Text.{IsPointsText};
 
 /// A text is that of at most one list of cuts and points between two semantics.
 pub fn text_is_of_one_problem()
-    ensures { (left right : System) (bytes : List ℕ) (p q : Points) → IsPointsText left right bytes p → IsPointsText left right bytes q → p ≡ q }
+    ensures { (left right : System) (bytes : List ℕ) (p q : Points) →
+        IsPointsText left right bytes p → IsPointsText left right bytes q → p ≡ q }
 {}

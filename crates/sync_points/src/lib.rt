@@ -1,8 +1,8 @@
 //! The cuts and synchronisation points that a text writes.
 #![tactic(auto)]
 
-ghost use Rattle.std.specs.Prelude.{◌↔◌, IsTrue, IfOk, IsErrOf};
-ghost use Rattle.rule_text.specs.declared.error.LoadError.{LoadError};
+ghost use Rattle.std.specs.Prelude.{◌↔◌, IsTrue, IfOk};
+ghost use Rattle.rule_text.specs.Unread.{UnreadOnlyIfNone};
 ghost use Rattle.sort_term.specs.declared.points.Points.{Points};
 ghost use Rattle.sync_points.specs.Text.{AreItemsOf, AreLawful, IsPointsText};
 
@@ -27,7 +27,7 @@ pub fn load_points(
     bytes: &[u8],
 ) -> Result<Points, LoadError>
     ensures ok { IfOk result (IsPointsText left.now right.now bytes.now) }
-    ensures unread { IsErrOf result LoadError.Unread → (p : Points) → ¬ IsPointsText left.now right.now bytes.now p }
+    ensures unread { UnreadOnlyIfNone result (IsPointsText left.now right.now bytes.now) }
 {
     let items = read_items(alloc, FileKind::Points, bytes)?;
     points(alloc, left, right, items.as_slice())
@@ -41,7 +41,7 @@ fn points(
     items: &[Item],
 ) -> Result<Points, LoadError>
     ensures ok { IfOk result (AreItemsOf left.now right.now items.now) }
-    ensures unread { IsErrOf result LoadError.Unread → (p : Points) → ¬ AreItemsOf left.now right.now items.now p }
+    ensures unread { UnreadOnlyIfNone result (AreItemsOf left.now right.now items.now) }
 {
     let points = added(alloc, left, right, items)?;
     if !are_lawful(left, right, &points) {

@@ -1,7 +1,7 @@
 use Rattle.std.proofs.Common.{take}
 use Rattle.bit_gates.specs.Bits.{number}
 use Rattle.bit_gates.specs.Gates.{gate_number}
-use Rattle.bit_gates.specs.Extends.{Grows}
+use Rattle.bit_gates.specs.Grows.{Grows}
 use Rattle.bit_gates.specs.Meaning.{IsWord}
 use Rattle.bit_gates.proofs.bitwise.gate_words.Given as goal
 

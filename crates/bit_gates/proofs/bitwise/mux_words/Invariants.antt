@@ -1,7 +1,7 @@
 use Rattle.std.proofs.Common.{take, if◌then◌else◌}
 use Rattle.refute_check.specs.Truth.{lit_true}
 use Rattle.bit_gates.specs.Bits.{number}
-use Rattle.bit_gates.specs.Extends.{Grows}
+use Rattle.bit_gates.specs.Grows.{Grows}
 use Rattle.bit_gates.specs.Meaning.{IsWord}
 use Rattle.bit_gates.proofs.bitwise.mux_words.Given as goal
 

@@ -1,6 +1,6 @@
 use Rattle.std.proofs.Common.{take, ◌==◌}
 use Rattle.bit_gates.specs.Bits.{number}
-use Rattle.bit_gates.specs.Extends.{Grows}
+use Rattle.bit_gates.specs.Grows.{Grows}
 use Rattle.bit_gates.specs.Meaning.{IsBit}
 use Rattle.bit_gates.proofs.comparison.equal.Given as goal
 

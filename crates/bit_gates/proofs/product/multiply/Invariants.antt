@@ -1,7 +1,7 @@
 use Rattle.std.proofs.Common.{◌*◌, take, length}
 use Rattle.data_value.specs.Words.{wrap}
 use Rattle.bit_gates.specs.Bits.{number}
-use Rattle.bit_gates.specs.Extends.{Grows}
+use Rattle.bit_gates.specs.Grows.{Grows}
 use Rattle.bit_gates.specs.Meaning.{IsWord}
 use Rattle.bit_gates.proofs.product.multiply.Given as goal
 

@@ -1,5 +1,5 @@
 use Rattle.std.proofs.Common.{length}
-use Rattle.bit_gates.specs.Extends.{Grows}
+use Rattle.bit_gates.specs.Grows.{Grows}
 use Rattle.bit_gates.proofs.ShiftLemmas.{IsMoving, IsStep}
 use Rattle.bit_gates.proofs.shifts.shift.Given as goal
 

@@ -1,6 +1,6 @@
 use Rattle.std.proofs.Common.{take}
 use Rattle.bit_gates.specs.Sums.{IsSum}
-use Rattle.bit_gates.specs.Extends.{Grows}
+use Rattle.bit_gates.specs.Grows.{Grows}
 use Rattle.bit_gates.proofs.sums.add_words.Given as goal
 
 abbrev pub invariant-loop-i : goal.invariant-loop-i

@@ -10,7 +10,7 @@ use Rattle.data_value.specs.Flat.{node_sort, flat_sorts}
 use Rattle.data_value.proofs.FlatLemmas.{sorts_fit}
 use Rattle.bit_gates.proofs.ExtendLemmas.{extends_refl, extends_trans}
 use Rattle.bv_blast.specs.Inputs.{IsBits, widths_of}
-use Rattle.bv_blast.specs.Places.{place_sort, HasPlace, AreNodes}
+use Rattle.bv_blast.specs.Places.{place_sort, HasPlace, HaveNodeValues}
 use Rattle.bv_blast.proofs.FreeLemmas.{bits_more}
 use Rattle.bv_blast.proofs.PlaceLemmas.{nodes_none, nodes_more, widths_fit}
 use Rattle.bv_blast.proofs.walk.blast_nodes.Goals as goal
@@ -48,5 +48,5 @@ loop-node-preserved c = record {
 pub returns : goal.returns
 returns c = record {
   extends = c.loop-node.invariant.extends;
-  made = subst (λ (ns : List FlatNode). AreNodes c.loop-node.b c.args.inputs.now ns c.loop-node.places) (take_all c.loop-node.node-index c.args.nodes.now c.loop-node-test.false) c.loop-node.invariant.so_far;
+  made = subst (λ (ns : List FlatNode). HaveNodeValues c.loop-node.b c.args.inputs.now ns c.loop-node.places) (take_all c.loop-node.node-index c.args.nodes.now c.loop-node-test.false) c.loop-node.invariant.so_far;
 }

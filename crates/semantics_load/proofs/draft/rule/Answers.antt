@@ -8,13 +8,13 @@ use Rattle.semantics_load.proofs.Same.{head_text, demands_text, outcome_text}
 use Rattle.semantics_load.proofs.draft.rule.Goals as goal
 
 pub returns-in_err-head-clause-unread : goal.returns-in_err-head-clause-unread
-returns-in_err-head-clause-unread c = λ e r text. c.in_err-head.ensures.unread (search rules) r.head (head_text _ _ _ _ _ _ r _ c.in_ok-variables.ensures.ok text)
+returns-in_err-head-clause-unread c = λ e r text. c.in_err-head.ensures.unread (search rules) r.head (head_text _ _ r _ c.in_ok-variables.ensures.ok text)
 
 pub returns-in_err-demands-clause-unread : goal.returns-in_err-demands-clause-unread
-returns-in_err-demands-clause-unread c = λ e r text. c.in_err-demands.ensures.unread (search rules) r.demands (demands_text _ _ _ _ _ _ r _ c.in_ok-variables.ensures.ok text)
+returns-in_err-demands-clause-unread c = λ e r text. c.in_err-demands.ensures.unread (search rules) r.demands (demands_text _ _ r _ c.in_ok-variables.ensures.ok text)
 
 pub returns-in_err-result-clause-unread : goal.returns-in_err-result-clause-unread
-returns-in_err-result-clause-unread c = λ e r text. c.in_err-result.ensures.unread (search rules) r.result (outcome_text _ _ _ _ _ _ r _ c.in_ok-variables.ensures.ok text)
+returns-in_err-result-clause-unread c = λ e r text. c.in_err-result.ensures.unread (search rules) r.result (outcome_text _ _ r _ c.in_ok-variables.ensures.ok text)
 
 pub returns-clause-ok : goal.returns-clause-ok
 returns-clause-ok c =
