@@ -22,7 +22,7 @@ judged_answers q steps _ _ (unmatched k p v is) = (tt, λ e. cc)
 judged_answers q steps _ _ (not_grounded k test p v is) = (tt, λ e. cc)
 
 -- and so is the end of a check
-ends_answers : (t : FiveTexts) (steps : ℕ) (status : Status) (report : List ℕ) → CheckEnds t steps status report → IsAnswer status × (status ≢ Usage)
+pub ends_answers : (t : FiveTexts) (steps : ℕ) (status : Status) (report : List ℕ) → CheckEnds t steps status report → IsAnswer status × (status ≢ Usage)
 ends_answers t steps _ _ (unread role first) = (tt, λ e. cc)
 ends_answers t steps _ _ (judged q status report a j) = judged_answers q steps status report j
 

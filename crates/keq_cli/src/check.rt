@@ -1,8 +1,9 @@
 // Fetches the five texts of a check, and answers what they say.
-ghost use Rattle.std.specs.Prelude.{◌≡◌, ◌≢◌, ◌≤◌, Some, IfOk, OnOk, IfSome, IsErrOf};
+ghost use Rattle.std.specs.Prelude.{◌≡◌, ◌≤◌, Some, IfOk, OnOk, IfSome, IsErrOf};
 ghost use Rattle.keq_cli.specs.Outside.{HasFetchCause, count_after};
 ghost use Rattle.keq_cli.specs.Asked.{check_view, names_view};
 ghost use Rattle.keq_cli.specs.Outcome.{IsOutcome};
+ghost use Rattle.keq_cli.specs.Status.{IsAnswer};
 ghost use Rattle.keq_cli.specs.Texts.{HoldsAll, HoldsSteadily, AllFetched};
 
 use crate::answer::{Answer, answer_texts};
@@ -18,6 +19,7 @@ const MOST: usize = 1_048_577;
 pub fn run_check<F: Shelf>(alloc: Global, check: &Check<'_>, shelf: &mut F) -> Result<Answer, Fetch>
     requires { 1 ≤ check.now.steps }
     ensures outcome { IfOk result (IsOutcome (F.holds shelf.old) (Some (check_view check.now))) }
+    ensures answer { IfOk result (λ answer. IsAnswer answer.status) }
     ensures held { IfOk result (λ _. IfSome (F.holds shelf.old) (λ files. HoldsAll files (names_view check.now))) }
     ensures fetches { F.calls shelf.new ≤ count_after 5 (F.calls shelf.old) }
     ensures fetched { OnOk result (F.calls shelf.new ≡ count_after 5 (F.calls shelf.old)) }

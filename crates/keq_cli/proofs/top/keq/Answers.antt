@@ -17,9 +17,6 @@ returns-in_default-clause-outcome g c = λ answer.
 pub returns-in_default-clause-front : goal.returns-in_default-clause-front
 returns-in_default-clause-front g c = λ failed. (Usage, (bad_words_line, (usage_outcome (g.F.Shelf.holds c.args.shelf.now) (asked c.args.words.now) c.in_default.ensures.asked, c.put_report.ensures.front)))
 
-pub put_report-requires-in-Ok : goal.put_report-requires-in-Ok
-put_report-requires-in-Ok g c = (check_answers _ _ _ _ c.in-Ok.ensures.outcome).0
-
 pub returns-in-Ok-clause-outcome : goal.returns-in-Ok-clause-outcome
 returns-in-Ok-clause-outcome g c = λ answered.
     let held = g.F.Shelf.holds c.args.shelf.now in
