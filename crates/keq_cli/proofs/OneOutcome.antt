@@ -1,5 +1,5 @@
 -- What was asked for has one outcome.
-use Rattle.std.proofs.Common.{◌≡◌, ℕ, List, [], Option, Some, map, slice_get, refl, sym, ap, subst, ◌∙◌}
+use Rattle.std.proofs.Common.{◌≡◌, ℕ, List, [], Option, None, Some, map, slice_get, refl, sym, ap, subst, ◌∙◌}
 use Rattle.std.proofs.lemmas.Option.{same_Some}
 use Rattle.sort_term.specs.declared.points.Point.{Point}
 use Rattle.sort_term.specs.declared.points.Points.{Points}
@@ -17,7 +17,7 @@ use Rattle.sync_points.proofs.Same.{one_points}
 use Rattle.keq_cli.specs.Outside.{FileMap}
 use Rattle.keq_cli.specs.Words.{Names, Command}
 use Rattle.keq_cli.specs.Reports.{equivalent_line, refines_lines, unmatched_lines, not_grounded_lines, unread_line}
-use Rattle.keq_cli.specs.Outcome.{FiveTexts, FirstUnread, left_semantics, right_semantics, left_program, right_program, points, AreTextsOf, IsJudged, equivalent, refines, unmatched, not_grounded, CheckEnds, unread, judged, AllHeld, NamesEnd, Outcome, usage, check}
+use Rattle.keq_cli.specs.Outcome.{FiveTexts, FirstUnread, left_semantics, right_semantics, left_program, right_program, points, AreTextsOf, IsJudged, equivalent, refines, unmatched, not_grounded, CheckEnds, unread, judged, AllHeld, usage, check, Tells, HasOneOutcome}
 use Rattle.keq_cli.specs.declared.texts.Role.{Role}
 use Rattle.keq_cli.specs.declared.status.Status.{Status}
 use Rattle.keq_cli.specs.declared.status.Status.TheVariants.{Equivalent, Refines, Unmatched, NotGrounded}
@@ -138,9 +138,7 @@ same_texts files names t u a b =
     ∙ ap (λ x. of u.left_semantics u.right_semantics u.left_program x t.points) (same_Some t.right_program u.right_program (sym a.right_program ∙ b.right_program))
     ∙ ap (λ x. of u.left_semantics u.right_semantics u.left_program u.right_program x) (same_Some t.points u.points (sym a.points ∙ b.points))
 
-same_names_end : (files : FileMap) (names : Names) (n : ℕ) (s r : Status) (x y : List ℕ) → NamesEnd files names n s x → NamesEnd files names n r y → (s ≡ r) × (x ≡ y)
-same_names_end files names n s r x y a b = same_ends a.texts n s r x y a.ends (subst (λ (t : FiveTexts). CheckEnds t n r y) (same_texts files names b.texts a.texts b.held a.held) b.ends)
-
-pub one_outcome : (held : Option FileMap) (command : Option Command) (s r : Status) (x y : List ℕ) → Outcome held command s x → Outcome held command r y → (s ≡ r) × (x ≡ y)
-one_outcome held _ _ _ _ _ usage usage = (refl, refl)
-one_outcome held _ _ _ _ _ (check files names n s x is a) (check others _ _ r y again b) = same_names_end files names n s r x y a (subst (λ (f : FileMap). NamesEnd f names n r y) (same_Some others files (sym again ∙ is)) b)
+pub one_outcome : (held : Option FileMap) (command : Option Command) → Tells held command → HasOneOutcome held command
+one_outcome held _ tells _ _ _ _ usage usage = (refl, refl)
+one_outcome None _ tells _ _ _ _ (check names n t s x a e) (check _ _ u r y b f) = absurd cc
+one_outcome (Some files) _ tells _ _ _ _ (check names n t s x a e) (check _ _ u r y b f) = same_ends t n s r x y e (subst (λ (v : FiveTexts). CheckEnds v n r y) (same_texts files names u t b a) f)

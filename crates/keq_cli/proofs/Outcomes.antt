@@ -1,34 +1,39 @@
--- The outcome of what was asked for.
-use Rattle.std.proofs.Common.{◌≡◌, ◌⊎◌, inl, inr, ℕ, List, Option, None, Some, sym, subst, refl}
-use Rattle.std.specs.Prelude.{IfSome}
+-- What is true of an outcome.
+use Rattle.std.proofs.Common.{◌≡◌, ◌≢◌, ◌⊎◌, inl, inr, ℕ, List, Option, None, Some, sym, subst, ◌∙◌}
 use Rattle.keq_cli.specs.Outside.{FileMap}
-use Rattle.keq_cli.specs.Words.{Names, Command, Check}
+use Rattle.keq_cli.specs.Words.{Command}
 use Rattle.keq_cli.specs.Status.{IsAnswer}
 use Rattle.keq_cli.specs.Reports.{bad_words_line}
-use Rattle.keq_cli.specs.Outcome.{Outcome, usage, check, NamesEnd, Tells}
+use Rattle.keq_cli.specs.Outcome.{FiveTexts, IsJudged, equivalent, refines, unmatched, not_grounded, CheckEnds, unread, judged, Outcome, usage, check}
 use Rattle.keq_cli.specs.declared.status.Status.{Status}
-use Rattle.keq_cli.specs.declared.status.Status.TheVariants.{Usage, WriteFault}
-
--- what is told of what is there
-pub some_weaker : {T : Type 0} (o : Option T) (P Q : T → Type 0) → ((x : T) → P x → Q x) → IfSome o P → IfSome o Q
-some_weaker None P Q f p = p
-some_weaker (Some x) P Q f p = f x p
+use Rattle.keq_cli.specs.declared.status.Status.TheVariants.{Usage, ReadFault, WriteFault, NoMemory}
+use Rattle.sort_term.specs.declared.problem.Problem.{Problem}
 
 -- an answer is the status that was wanted
 pub wanted : {status aim : Status} → (status ≡ aim) ⊎ (status ≡ WriteFault) → IsAnswer status → status ≡ aim
 wanted (inl same) answer = same
 wanted (inr failed) answer = absurd (subst IsAnswer failed answer)
 
+-- a verdict is an answer, and not that of words of no form
+judged_answers : (q : Problem) (steps : ℕ) (status : Status) (report : List ℕ) → IsJudged q steps status report → IsAnswer status × (status ≢ Usage)
+judged_answers q steps _ _ (equivalent v) = (tt, λ e. cc)
+judged_answers q steps _ _ (refines k p v is) = (tt, λ e. cc)
+judged_answers q steps _ _ (unmatched k p v is) = (tt, λ e. cc)
+judged_answers q steps _ _ (not_grounded k test p v is) = (tt, λ e. cc)
+
+-- and so is the end of a check
+pub ends_answers : (t : FiveTexts) (steps : ℕ) (status : Status) (report : List ℕ) → CheckEnds t steps status report → IsAnswer status × (status ≢ Usage)
+ends_answers t steps _ _ (unread role first) = (tt, λ e. cc)
+ends_answers t steps _ _ (judged q status report a j) = judged_answers q steps status report j
+
+pub check_answers : (held : Option FileMap) (command : Command) (status : Status) (report : List ℕ) → Outcome held (Some command) status report → IsAnswer status × (status ≢ Usage)
+check_answers held _ _ _ (check names steps texts status report holds ends) = ends_answers texts steps status report ends
+
+-- what a check puts is a report: its status is no fault before the put, and not that of words of no form
+pub put_check : {status aim : Status} → IsAnswer aim × (aim ≢ Usage) → (status ≡ aim) ⊎ (status ≡ WriteFault) → (status ≢ Usage) × (status ≢ ReadFault) × (status ≢ NoMemory)
+put_check answers (inl same) = (λ e. answers.1 (sym same ∙ e), λ e. subst IsAnswer (sym same ∙ e) answers.0, λ e. subst IsAnswer (sym same ∙ e) answers.0)
+put_check answers (inr failed) = (λ e. cc, λ e. cc, λ e. cc)
+
+-- words of no form have the one line
 pub usage_outcome : (held : Option FileMap) (command : Option Command) → None ≡ command → Outcome held command Usage bad_words_line
 usage_outcome held command none = subst (λ (c : Option Command). Outcome held c Usage bad_words_line) none usage
-
-of_held : (held : Option FileMap) (names : Names) (steps : ℕ) (status : Status) (report : List ℕ) → Tells held (Some (Check names steps)) → IfSome held (λ files. NamesEnd files names steps status report) → Outcome held (Some (Check names steps)) status report
-of_held None names steps status report tells ends = absurd cc
-of_held (Some files) names steps status report tells ends = check files names steps status report refl ends
-
-pub check_outcome : (held : Option FileMap) (command : Option Command) (names : Names) (steps : ℕ) (status : Status) (report : List ℕ) → Some (Check names steps) ≡ command → Tells held command → IfSome held (λ files. NamesEnd files names steps status report) → Outcome held command status report
-check_outcome held command names steps status report is tells ends = subst (λ (c : Option Command). Outcome held c status report) is (of_held held names steps status report (subst (Tells held) (sym is) tells) ends)
-
--- the same report, spelled otherwise
-pub other_report : (held : Option FileMap) (names : Names) (steps : ℕ) (status : Status) (report again : List ℕ) → again ≡ report → IfSome held (λ files. NamesEnd files names steps status report) → IfSome held (λ files. NamesEnd files names steps status again)
-other_report held names steps status report again is = subst (λ (text : List ℕ). IfSome held (λ files. NamesEnd files names steps status text)) (sym is)

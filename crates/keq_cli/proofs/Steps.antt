@@ -5,7 +5,7 @@ use Rattle.std.proofs.lemmas.Str.Parse.{IsNumeralModel, numerals_by_value, tells
 use Rattle.std.specs.Result.{result_ok, OkIff}
 use Rattle.std.specs.Str.{all_ascii_digits}
 use Rattle.std.specs.Str.Parse.{digits_value, ParsesUnsigned}
-use Rattle.keq_cli.specs.Words.{steps_of}
+use Rattle.keq_cli.specs.Words.{step_count_of}
 
 -- decimal digits, and the number that they write
 digits : IsNumeralModel (λ word. all_ascii_digits word ≡ true) (digits_value 10)
@@ -21,11 +21,11 @@ filled [] above = absurd (omega (arith, above))
 filled (c ∷ cs) above = omega arith
 
 -- a word that doesn't parse gives no steps
-pub no_steps : {E : Type 0} (word : List ℕ) (r : Result ℕ E) → ParsesUnsigned 32 10 word r → false ≡ (slice_index word 0 == 43) → None ≡ result_ok r → None ≡ steps_of word
+pub no_steps : {E : Type 0} (word : List ℕ) (r : Result ℕ E) → ParsesUnsigned 32 10 word r → false ≡ (slice_index word 0 == 43) → None ≡ result_ok r → None ≡ step_count_of word
 no_steps word (Ok n) reads first failed = cc
 no_steps word (Err e) reads first failed = let not_digits = plain word (Err e) reads first in grind (arith, nat_tests, filled word)
 
 -- a word that parses to a number in the range gives it
-pub some_steps : {E : Type 0} (word : List ℕ) (r : Result ℕ E) (steps : ℕ) → ParsesUnsigned 32 10 word r → false ≡ (slice_index word 0 == 43) → Some steps ≡ result_ok r → length word ≤ 5 → 1 ≤ steps → steps ≤ 10000 → Some steps ≡ steps_of word
+pub some_steps : {E : Type 0} (word : List ℕ) (r : Result ℕ E) (steps : ℕ) → ParsesUnsigned 32 10 word r → false ≡ (slice_index word 0 == 43) → Some steps ≡ result_ok r → length word ≤ 5 → 1 ≤ steps → steps ≤ 10000 → Some steps ≡ step_count_of word
 some_steps word (Err e) steps reads first parsed short low high = cc
 some_steps {E = E} word (Ok n) steps reads first parsed short low high = let is = plain {E = E} word (Ok n) reads first in grind (arith, nat_tests)

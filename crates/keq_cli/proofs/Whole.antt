@@ -1,5 +1,6 @@
 -- What is said of the fetched fronts of texts holds of the texts.
-use Rattle.std.proofs.Common.{◌≡◌, ◌≤◌, ℕ, List, length, take, sym, ◌∙◌, ap, subst, arith}
+use Rattle.std.proofs.Common.{◌≡◌, ◌≤◌, ℕ, List, length, take, Option, None, Some, sym, ◌∙◌, ap, subst, arith}
+use Rattle.std.specs.Prelude.{IfSome}
 use Rattle.std.proofs.lemmas.List.{length-take, take_all}
 use Rattle.sort_term.specs.declared.points.Points.{Points}
 use Rattle.sort_term.specs.declared.problem.Problem.{Problem}
@@ -9,9 +10,9 @@ use Rattle.semantics_load.specs.Text.{IsSemanticsText}
 use Rattle.program_text.specs.Text.{IsProgramText}
 use Rattle.sync_points.specs.Text.{IsPointsText}
 use Rattle.keq_cli.specs.Outside.{FileMap, IsFetched}
-use Rattle.keq_cli.specs.Words.{Names}
+use Rattle.keq_cli.specs.Words.{Names, Check}
 use Rattle.keq_cli.specs.Texts.{AllFetched}
-use Rattle.keq_cli.specs.Outcome.{FiveTexts, texts_of, NoSemantics, NoProgram, NoPoints, FirstUnread, left_semantics, right_semantics, left_program, right_program, points, AreTextsOf, CheckEnds, unread, judged, AllHeld, NamesEnd}
+use Rattle.keq_cli.specs.Outcome.{FiveTexts, texts_of, NoSemantics, NoProgram, NoPoints, FirstUnread, left_semantics, right_semantics, left_program, right_program, points, AreTextsOf, CheckEnds, unread, judged, AllHeld, Outcome, check}
 use Rattle.keq_cli.specs.declared.texts.Role.{Role}
 use Rattle.keq_cli.specs.declared.texts.Texts.{Texts}
 use Rattle.keq_cli.specs.declared.status.Status.{Status}
@@ -70,5 +71,7 @@ module _ {files : FileMap} {names : Names} {texts : Texts} (a : AllFetched files
   whole_ends steps _ _ (unread role first) = unread role (whole_unread role first)
   whole_ends steps _ _ (judged q status report t j) = judged q status report (whole_texts q t) j
 
-  pub names_end : (steps : ℕ) (status : Status) (report : List ℕ) → CheckEnds (texts_of texts) steps status report → NamesEnd files names steps status report
-  names_end steps status report ends = record { texts = wholes; held = whole_held; ends = whole_ends steps status report ends }
+-- the end of a check of the fetched texts is an outcome
+pub fetched_outcome : (held : Option FileMap) (names : Names) (texts : Texts) → IfSome held (λ files. AllFetched files names 1048577 texts) → (steps : ℕ) (status : Status) (report : List ℕ) → CheckEnds (texts_of texts) steps status report → Outcome held (Some (Check names steps)) status report
+fetched_outcome None names texts fetched steps status report ends = check names steps (texts_of texts) status report tt ends
+fetched_outcome (Some files) names texts fetched steps status report ends = check names steps (wholes fetched) status report (whole_held fetched) (whole_ends fetched steps status report ends)

@@ -5,4 +5,5 @@ pub mod Outside
 pub mod Reports
 pub mod Texts
 pub mod Memory
+pub mod Loading
 pub mod Outcome

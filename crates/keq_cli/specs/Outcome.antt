@@ -1,12 +1,13 @@
 -- How what was asked for ends, and what is reported.
-use Rattle.std.specs.Prelude.{◌≡◌, ℕ, List, Option, None, Some, IsSome, ⊤}
+use Rattle.std.specs.Prelude.{◌≡◌, ℕ, List, Option, None, Some, IsSome, IfSome, ⊤}
 use Rattle.std.specs.FinMap.{get}
 use Rattle.sort_term.specs.declared.points.Point.{Point}
 use Rattle.sort_term.specs.declared.points.Points.{Points}
 use Rattle.sort_term.specs.declared.problem.Problem.{Problem}
 use Rattle.sort_term.specs.Step.{Tables}
 use Rattle.sort_term.specs.System.{System}
-use Rattle.sort_term.specs.Simulation.{IsPoint, Test}
+use Rattle.sort_term.specs.Relation.{IsPoint}
+use Rattle.sort_term.specs.Simulation.{Test}
 use Rattle.sort_term.specs.Verdict.{IsVerdict}
 use Rattle.sort_term.specs.Verdict as kind
 use Rattle.semantics_load.specs.Text.{IsSemanticsText}
@@ -15,6 +16,7 @@ use Rattle.sync_points.specs.Text.{IsPointsText}
 use Rattle.keq_cli.specs.Outside.{FileMap, IsTaken, IsFrontTaken}
 use Rattle.keq_cli.specs.Words.{Names, Command, Check}
 use Rattle.keq_cli.specs.Reports.{equivalent_line, refines_lines, unmatched_lines, not_grounded_lines, unread_line, bad_words_line}
+use Rattle.keq_cli.specs.declared.answer.Answer.{Answer}
 use Rattle.keq_cli.specs.declared.texts.Role.{Role}
 use Rattle.keq_cli.specs.declared.texts.Role.TheVariants.{LeftSemantics, RightSemantics, LeftProgram, RightProgram, Points as PointsRole}
 use Rattle.keq_cli.specs.declared.texts.Texts.{Texts}
@@ -78,26 +80,33 @@ pub record AllHeld (files : FileMap) (names : Names) (t : FiveTexts) : Type 0 wh
   pub right_program : get files names.right_program ≡ Some t.right_program
   pub points : get files names.points ≡ Some t.points
 
--- how a check of five names ends
-pub record NamesEnd (files : FileMap) (names : Names) (steps : ℕ) (status : Status) (report : List ℕ) : Type 0 where
-  pub texts : FiveTexts
-  pub held : AllHeld files names texts
-  pub ends : CheckEnds texts steps status report
+-- the texts may be what the shelf holds under the names: where it tells what it holds, they are
+abbrev pub MayHold : Option FileMap → Names → FiveTexts → Type 0
+MayHold held names texts = IfSome held (λ files. AllHeld files names texts)
 
--- the outcome of what was asked for, by what the shelf holds, which is told; None stands for words of no form
+-- how a call of a command may end, with its report; None stands for words of no form.
+-- A check ends as some five texts do; where the shelf tells what it holds, these are the texts under the names
 pub data Outcome (held : Option FileMap) : Option Command → Status → List ℕ → Type 0 where
   usage : Outcome held None Usage bad_words_line
-  check : (files : FileMap) (names : Names) (steps : ℕ) (status : Status) (report : List ℕ) → held ≡ Some files → NamesEnd files names steps status report → Outcome held (Some (Check names steps)) status report
+  check : (names : Names) (steps : ℕ) (texts : FiveTexts) (status : Status) (report : List ℕ) → MayHold held names texts → CheckEnds texts steps status report → Outcome held (Some (Check names steps)) status report
+
+-- the answer is an outcome
+abbrev pub IsOutcome : Option FileMap → Option Command → Answer → Type 0
+IsOutcome held command answer = Outcome held command answer.status answer.report.items
+
+-- there is at most one outcome: one status and one report
+abbrev pub HasOneOutcome : Option FileMap → Option Command → Type 0
+HasOneOutcome held command = (s t : Status) (x y : List ℕ) → Outcome held command s x → Outcome held command t y → (s ≡ t) × (x ≡ y)
 
 -- the shelf tells what it holds, or no file is named
 abbrev pub Tells : Option FileMap → Option Command → Type 0
 Tells held None = ⊤
 Tells held (Some (Check names steps)) = IsSome held
 
--- the whole report of the outcome was taken
-abbrev pub IsOutcomeTaken : Option FileMap → Option Command → Status → Option (List ℕ) → Option (List ℕ) → Type 0
-IsOutcomeTaken held command status before now = (report : List ℕ) × Outcome held command status report × IsTaken before report now
+-- the whole report of an outcome with this status was taken
+abbrev pub IsReported : Option FileMap → Option Command → Status → Option (List ℕ) → Option (List ℕ) → Type 0
+IsReported held command status before now = (report : List ℕ) × Outcome held command status report × IsTaken before report now
 
 -- a front of the report of an outcome was taken
-abbrev pub IsOutcomeFrontTaken : Option FileMap → Option Command → Option (List ℕ) → Option (List ℕ) → Type 0
-IsOutcomeFrontTaken held command before now = (status : Status) × ((report : List ℕ) × (Outcome held command status report × IsFrontTaken before report now))
+abbrev pub IsFrontReported : Option FileMap → Option Command → Option (List ℕ) → Option (List ℕ) → Type 0
+IsFrontReported held command before now = (status : Status) × ((report : List ℕ) × (Outcome held command status report × IsFrontTaken before report now))

@@ -1,5 +1,5 @@
--- What a shelf holds and a sink takes, and when a count of faults rises.
-use Rattle.std.specs.Prelude.{◌≡◌, ◌≢◌, ◌-◌, ◌^◌, ◌<◌, ◌≤◌, ℕ, List, ◌++◌, take, Option, None, Some, IsSome, Result, Ok, Err}
+-- What a shelf holds and a sink takes, and how counts rise.
+use Rattle.std.specs.Prelude.{◌≡◌, ◌≢◌, ◌+◌, ◌-◌, ◌^◌, ◌<◌, ◌≤◌, min, ℕ, List, ◌++◌, take, Bool, IsTrue, Option, None, Some, IsSome, IfSome, Result, Ok, Err}
 use Rattle.std.specs.Ordering.{nat_cmp}
 use Rattle.std.specs.Cmp.Lexicographic.{slice_cmp}
 use Rattle.std.specs.FinMap.{FinMap, get}
@@ -19,11 +19,19 @@ IsHeld files name = IsSome (get files name)
 abbrev pub IsMissing : FileMap → List ℕ → Type 0
 IsMissing files name = get files name ≡ None
 
+-- nothing is held under the name by a steady shelf, where it tells what it holds
+abbrev pub IsMissingIfSteady : Bool → Option FileMap → List ℕ → Type 0
+IsMissingIfSteady steady held name = IsTrue steady → IfSome held (λ files. IsMissing files name)
+
 -- the name is held, and these bytes are the first of what it holds: so many, or all where there are fewer
 pub record IsFetched (files : FileMap) (name : List ℕ) (most : ℕ) (bytes : List ℕ) : Type 0 where
   pub all : List ℕ
   pub held : get files name ≡ Some all
   pub front : bytes ≡ take most all
+
+-- a count after so many more, up to the last value of a counter
+abbrev pub count_after : ℕ → ℕ → ℕ
+count_after more before = before + min more (2 ^ 64 - 1 - before)
 
 -- a count rose: it is greater than before, unless it stood at the last value of a counter
 abbrev pub Rose : ℕ → ℕ → Type 0

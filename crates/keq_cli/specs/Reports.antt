@@ -1,11 +1,8 @@
 -- What a call reports.
-use Rattle.std.specs.Prelude.{ℕ, List, ◌++◌, Option, codes}
-use Rattle.keq_cli.specs.Outside.{IsTaken, IsFrontTaken}
+use Rattle.std.specs.Prelude.{ℕ, List, ◌++◌, codes}
 use Rattle.sort_term.specs.Simulation.{Test, void, outside, long, halted}
 use Rattle.keq_cli.specs.declared.texts.Role.{Role}
 use Rattle.keq_cli.specs.declared.texts.Role.TheVariants.{LeftSemantics, RightSemantics, LeftProgram, RightProgram, Points}
-use Rattle.keq_cli.specs.declared.status.Status.{Status}
-use Rattle.keq_cli.specs.declared.status.Status.TheVariants.{Equivalent, Refines, Unmatched, NotGrounded, Refused, Usage}
 
 -- the name of a text in a report
 abbrev pub role_name : Role → List ℕ
@@ -50,20 +47,3 @@ unread_line role = codes "refused " ++ role_name role ++ codes " unread\n"
 -- the report of words that have no form
 abbrev pub bad_words_line : List ℕ
 bad_words_line = codes "bad command line\n"
-
--- a call that ends with this status reports this text
-pub data IsReport : Status → List ℕ → Type 0 where
-  equivalent : IsReport Equivalent equivalent_line
-  refines : (name : List ℕ) → IsReport Refines (refines_lines name)
-  unmatched : (name : List ℕ) → IsReport Unmatched (unmatched_lines name)
-  not_grounded : (test : Test) (name : List ℕ) → IsReport NotGrounded (not_grounded_lines test name)
-  unread : (role : Role) → IsReport Refused (unread_line role)
-  bad_words : IsReport Usage bad_words_line
-
--- a whole report of this status was taken
-abbrev pub IsReported : Option (List ℕ) → Status → Option (List ℕ) → Type 0
-IsReported before status now = (report : List ℕ) × IsReport status report × IsTaken before report now
-
--- a front of some report was taken
-abbrev pub IsFrontReported : Option (List ℕ) → Option (List ℕ) → Type 0
-IsFrontReported before now = (status : Status) × ((report : List ℕ) × (IsReport status report × IsFrontTaken before report now))

@@ -21,3 +21,9 @@ IsAnswer ReadFault = ⊥
 IsAnswer WriteFault = ⊥
 IsAnswer NoMemory = ⊥
 IsAnswer _ = ⊤
+
+-- a report was put, whole or in part: no fetch failed, and memory was found
+abbrev pub HasReport : Status → Type 0
+HasReport ReadFault = ⊥
+HasReport NoMemory = ⊥
+HasReport _ = ⊤

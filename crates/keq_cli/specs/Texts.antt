@@ -1,5 +1,5 @@
 -- The five texts of a check, and what a shelf holds of them.
-use Rattle.std.specs.Prelude.{ℕ, Option, Some, None, ⊤}
+use Rattle.std.specs.Prelude.{ℕ, Bool, IsTrue, Option, Some, None, IfSome, ⊤}
 use Rattle.keq_cli.specs.Outside.{FileMap, IsHeld, IsFetched}
 use Rattle.keq_cli.specs.Words.{Names, Command, Check}
 use Rattle.keq_cli.specs.declared.texts.Texts.{Texts}
@@ -16,6 +16,10 @@ pub record HoldsAll (files : FileMap) (names : Names) : Type 0 where
 abbrev pub HoldsNamed : FileMap → Option Command → Type 0
 HoldsNamed files None = ⊤
 HoldsNamed files (Some (Check names steps)) = HoldsAll files names
+
+-- a steady shelf that holds each name that the command has, where it tells what it holds
+abbrev pub HoldsSteadily : Bool → Option FileMap → Option Command → Type 0
+HoldsSteadily steady held command = IsTrue steady × IfSome held (λ files. HoldsNamed files command)
 
 -- each text is the front of what is held under its name
 pub record AllFetched (files : FileMap) (names : Names) (most : ℕ) (texts : Texts) : Type 0 where

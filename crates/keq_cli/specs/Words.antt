@@ -23,8 +23,8 @@ abbrev pub is_steps : List ℕ → Bool
 is_steps word = nat_le (length word) 5 && all_ascii_digits word && nat_le 1 (digits_value 10 word) && nat_le (digits_value 10 word) 10000
 
 -- the number of steps that a word gives
-abbrev pub steps_of : List ℕ → Option ℕ
-steps_of word = if is_steps word then Some (digits_value 10 word) else None
+abbrev pub step_count_of : List ℕ → Option ℕ
+step_count_of word = if is_steps word then Some (digits_value 10 word) else None
 
 -- the number of steps where none is given
 abbrev pub usual_steps : ℕ
@@ -38,9 +38,14 @@ command_of (verb ∷ ls ∷ rs ∷ lp ∷ rp ∷ pts ∷ []) =
     else None
 command_of (verb ∷ ls ∷ rs ∷ lp ∷ rp ∷ pts ∷ steps ∷ []) =
     if bytes_eq verb (codes "check")
-    then option_map (Check (record { left_semantics = ls; right_semantics = rs; left_program = lp; right_program = rp; points = pts })) (steps_of steps)
+    then option_map (Check (record { left_semantics = ls; right_semantics = rs; left_program = lp; right_program = rp; points = pts })) (step_count_of steps)
     else None
 command_of _ = None
+
+-- how many files a command names
+abbrev pub file_count : Option Command → ℕ
+file_count None = 0
+file_count (Some (Check names steps)) = 5
 
 -- what the words of a call ask for
 abbrev pub asked : List (String Global) → Option Command

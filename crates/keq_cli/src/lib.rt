@@ -1,8 +1,8 @@
 //! The top call of the program, over two traits of the outside: a shelf of named texts and a sink for the report.
 #![tactic(auto)]
 
+mod answer;
 mod check;
-mod judge;
 mod laws;
 mod loading;
 mod memory_shelf;

@@ -1,8 +1,9 @@
 // Loads the five texts of a check, in the order semantics, programs, points, left before right.
-ghost use Rattle.std.specs.Prelude.{◌≡◌, IfOk, IsErrOf};
+ghost use Rattle.std.specs.Prelude.{IfOk, IsErrOf};
 ghost use Rattle.semantics_load.specs.Text.{IsSemanticsText};
 ghost use Rattle.program_text.specs.Text.{IsProgramText};
 ghost use Rattle.sync_points.specs.Text.{IsPointsText};
+ghost use Rattle.keq_cli.specs.Loading.{RefusesWhere};
 ghost use Rattle.keq_cli.specs.Outcome.{AreTextsOf, FirstUnread, NoSemantics, NoProgram, NoPoints, texts_of};
 ghost use Rattle.keq_cli.specs.declared.loading.Unloaded.{Unloaded};
 ghost use Rattle.keq_cli.specs.declared.texts.Role.{Role};
@@ -57,7 +58,7 @@ pub fn load_all(alloc: Global, texts: &Texts) -> Result<Problem, Unloaded>
 
 fn semantics<S: Side>(alloc: Global, role: Role, text: &[u8]) -> Result<Semantics<S>, Unloaded>
     ensures ok { IfOk result (IsSemanticsText text.now) }
-    ensures unread { (named : Role) → IsErrOf result (Unloaded.Unread named) → (named ≡ role) × NoSemantics text.now }
+    ensures unread { RefusesWhere result role (NoSemantics text.now) }
 {
     match load(alloc, text) {
         Ok(semantics) => Ok(semantics),
@@ -73,7 +74,7 @@ fn program<S: Side>(
     text: &[u8],
 ) -> Result<Program<S>, Unloaded>
     ensures ok { IfOk result (IsProgramText semantics.now text.now) }
-    ensures unread { (named : Role) → IsErrOf result (Unloaded.Unread named) → (named ≡ role) × NoProgram semantics.now text.now }
+    ensures unread { RefusesWhere result role (NoProgram semantics.now text.now) }
 {
     match load_program(alloc, semantics, text) {
         Ok(program) => Ok(program),
@@ -89,7 +90,7 @@ fn points(
     text: &[u8],
 ) -> Result<Points, Unloaded>
     ensures ok { IfOk result (IsPointsText left.now right.now text.now) }
-    ensures unread { (named : Role) → IsErrOf result (Unloaded.Unread named) → (named ≡ Role.Points) × NoPoints left.now right.now text.now }
+    ensures unread { RefusesWhere result Role.Points (NoPoints left.now right.now text.now) }
 {
     match load_points(alloc, left, right, text) {
         Ok(points) => Ok(points),

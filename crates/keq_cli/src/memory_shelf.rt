@@ -1,9 +1,9 @@
 // A shelf in memory.
-ghost use Rattle.std.specs.Prelude.{refl, ◌≡◌, ◌≤◌, ◌↔◌, ◌==◌, [], Some, length, IfOk, IfSome, IsErrOf, IsTrue, vec_len};
+ghost use Rattle.std.specs.Prelude.{refl, ◌≡◌, ◌≤◌, ◌↔◌, [], Some, IfOk, IsErrOf, IsTrue, vec_len};
 ghost use Rattle.std.specs.Option.{option_map};
 ghost use Rattle.std.specs.FinMap.{get};
-ghost use Rattle.keq_cli.specs.Outside.{IsFetched, IsMissing, HasFetchCause};
-ghost use Rattle.keq_cli.specs.Memory.{file_map, files_of, failing_calls, call_count, next_call, FailsNext};
+ghost use Rattle.keq_cli.specs.Outside.{IsFetched, IsMissingIfSteady, HasFetchCause};
+ghost use Rattle.keq_cli.specs.Memory.{file_map, files_of, failing_calls, never_fails, call_count, next_call, FailsNext};
 
 use crate::{Fetch, Shelf};
 use sexp_text::{Bytes, Name};
@@ -42,7 +42,7 @@ impl MemoryShelf {
         ensures holds { ⟦<MemoryShelf as Shelf>⟧.holds result ≡ Some (file_map files) }
         ensures faults { ⟦<MemoryShelf as Shelf>⟧.faults result ≡ 0 }
         ensures steady { IsTrue (⟦<MemoryShelf as Shelf>⟧.steady result) ↔ (fails ≡ []) }
-        ensures calls { call_count result ≡ 0 }
+        ensures calls { ⟦<MemoryShelf as Shelf>⟧.calls result ≡ 0 }
         ensures failing { failing_calls result ≡ fails }
     {
         MemoryShelf {
@@ -71,17 +71,19 @@ impl Shelf for MemoryShelf {
 
     ghost faults = { λ s. s.faults };
 
-    ghost steady = { λ s. length (failing_calls s) == 0 };
+    ghost steady = { never_fails };
+
+    ghost calls = { call_count };
 
     ghost steady_tells = { λ s steady. refl };
 
     fn fetch(&mut self, alloc: Global, name: &str, most: usize) -> Result<Vec<u8>, Fetch>
-        ensures holds { ⟦<MemoryShelf as Shelf>⟧.holds self.new ≡ ⟦<MemoryShelf as Shelf>⟧.holds self.old }
-        ensures steady { ⟦<MemoryShelf as Shelf>⟧.steady self.new ≡ ⟦<MemoryShelf as Shelf>⟧.steady self.old }
+        ensures holds { files_of self.new ≡ files_of self.old }
+        ensures steady { never_fails self.new ≡ never_fails self.old }
         ensures bound { IfOk result (λ bytes. vec_len bytes ≤ most) }
-        ensures bytes { IfOk result (λ bytes. IfSome (⟦<MemoryShelf as Shelf>⟧.holds self.old) (λ files. IsFetched files name.now most bytes.items)) }
+        ensures bytes { IfOk result (λ bytes. IsFetched (files_of self.old) name.now most bytes.items) }
         ensures cause { HasFetchCause (⟦<MemoryShelf as Shelf>⟧.faults self.old) (⟦<MemoryShelf as Shelf>⟧.faults self.new) result }
-        ensures missing { IsErrOf result Fetch.Failed → IsTrue (⟦<MemoryShelf as Shelf>⟧.steady self.old) → IfSome (⟦<MemoryShelf as Shelf>⟧.holds self.old) (λ files. IsMissing files name.now) }
+        ensures missing { IsErrOf result Fetch.Failed → IsMissingIfSteady (never_fails self.old) (Some (files_of self.old)) name.now }
 
         // It fails exactly where the number of this fetch is listed, or the name is not held.
         ensures failed { IsErrOf result Fetch.Failed ↔ FailsNext self.old name.now }

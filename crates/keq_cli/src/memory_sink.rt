@@ -1,5 +1,6 @@
 // A sink in memory.
-ghost use Rattle.std.specs.Prelude.{◌≡◌, ◌≤◌, ◌+◌, ◌-◌, ◌<◌, ◌↔◌, [], Some, length, take, IfOk, OnOk, IsOk, IsErr, vec_len, vec_capacity};
+ghost use Rattle.std.specs.Prelude.{◌≡◌, ◌≤◌, ◌+◌, ◌-◌, ◌<◌, ◌↔◌, [], Some, length, take, vec_len, vec_capacity};
+ghost use Rattle.std.specs.Prelude.{IfOk, OnOk, IsOk, IsErr};
 ghost use Rattle.keq_cli.specs.Outside.{IsTaken, IsFrontTaken, HasPutCause};
 
 use crate::{Failed, NoMemory, Sink};
@@ -42,21 +43,21 @@ impl MemorySink {
 }
 
 impl Sink for MemorySink {
-    ghost use Rattle.keq_cli.specs.Memory.{room_left};
+    ghost use Rattle.keq_cli.specs.Memory.{room_left, taken_by};
 
-    ghost taken = { λ s. Some s.taken.items };
+    ghost taken = { taken_by };
 
     ghost faults = { λ s. s.faults };
 
     /// It takes no memory.
     fn put(&mut self, piece: &[u8]) -> Result<(), Failed>
-        ensures whole { OnOk result (IsTaken (⟦<MemorySink as Sink>⟧.taken self.old) piece.now (⟦<MemorySink as Sink>⟧.taken self.new)) }
-        ensures front { IsFrontTaken (⟦<MemorySink as Sink>⟧.taken self.old) piece.now (⟦<MemorySink as Sink>⟧.taken self.new) }
+        ensures whole { OnOk result (IsTaken (taken_by self.old) piece.now (taken_by self.new)) }
+        ensures front { IsFrontTaken (taken_by self.old) piece.now (taken_by self.new) }
         ensures empty { piece.now ≡ [] → IsOk result }
         ensures cause { HasPutCause (⟦<MemorySink as Sink>⟧.faults self.old) (⟦<MemorySink as Sink>⟧.faults self.new) result }
 
         // It takes as much as fits, and fails exactly where the piece is longer than that.
-        ensures fitting { IsTaken (⟦<MemorySink as Sink>⟧.taken self.old) (take (room_left self.old) piece.now) (⟦<MemorySink as Sink>⟧.taken self.new) }
+        ensures fitting { IsTaken (taken_by self.old) (take (room_left self.old) piece.now) (taken_by self.new) }
         ensures failed { IsErr result ↔ (room_left self.old < length piece.now) }
         ensures room { room_left self.new ≡ room_left self.old - length piece.now }
     {

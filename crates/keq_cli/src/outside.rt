@@ -1,7 +1,8 @@
 // What the program reads from and writes to.
-ghost use Rattle.std.specs.Prelude.{◌≡◌, ◌≤◌, [], List, ℕ, Option, IfOk, OnOk, IfSome, IsOk, IsSome, IsErrOf, vec_len, Bool, IsTrue};
+ghost use Rattle.std.specs.Prelude.{◌≡◌, ◌≤◌, [], List, ℕ, Option, Bool, IfOk, OnOk, IfSome, IsOk, IsSome, IsErrOf, IsTrue, vec_len};
 ghost use Rattle.keq_cli.specs.declared.outside.Fetch.TheVariants.{NoMemory as OutOfMemory};
-ghost use Rattle.keq_cli.specs.Outside.{FileMap, IsFetched, IsMissing, HasFetchCause, HasPutCause, IsTaken, IsFrontTaken};
+ghost use Rattle.keq_cli.specs.Outside.{FileMap, IsFetched, IsMissingIfSteady, count_after};
+ghost use Rattle.keq_cli.specs.Outside.{HasFetchCause, HasPutCause, IsTaken, IsFrontTaken};
 
 use no_memory::NoMemory;
 use std::alloc::{AllocError, AllocFailed, Global};
@@ -58,6 +59,9 @@ pub trait Shelf {
     /// How many fetches have failed, up to the last value of a counter. It never falls.
     ghost faults: { Self → ℕ };
 
+    /// How many fetches there were, up to the last value of a counter.
+    ghost calls: { Self → ℕ };
+
     /// Whether a name that is held is always fetched, but for want of memory.
     ghost steady: { Self → Bool };
 
@@ -67,6 +71,9 @@ pub trait Shelf {
         ensures holds { holds self.new ≡ holds self.old }
         ensures steady { steady self.new ≡ steady self.old }
 
+        // Each fetch is counted, whatever it answers, up to the last value of a counter.
+        ensures counted { calls self.new ≡ count_after 1 (calls self.old) }
+
         // On Ok there are at most `most` bytes. Where the content is told, the name is held, and they are its front.
         ensures bound { IfOk result (λ bytes. vec_len bytes ≤ most) }
         ensures bytes { IfOk result (λ bytes. IfSome (holds self.old) (λ files. IsFetched files name.now most bytes.items)) }
@@ -75,7 +82,7 @@ pub trait Shelf {
         ensures cause { HasFetchCause (faults self.old) (faults self.new) result }
 
         // A steady shelf fails only for a name that is not held.
-        ensures missing { IsErrOf result Fetch.Failed → IsTrue (steady self.old) → IfSome (holds self.old) (λ files. IsMissing files name.now) };
+        ensures missing { IsErrOf result Fetch.Failed → IsMissingIfSteady (steady self.old) (holds self.old) name.now };
 
     /// A steady shelf tells what it holds.
     ghost steady_tells: { (shelf : Self) → IsTrue (steady shelf) → IsSome (holds shelf) };

@@ -1,11 +1,11 @@
 // The top call: words, fetches, a verdict, and one put of the whole report.
-ghost use Rattle.std.specs.Prelude.{◌≡◌, ◌≢◌, ◌⊎◌, ◌<◌, None, IfSome, IsTrue};
-ghost use Rattle.keq_cli.specs.Outside.{Rose, IsTaken, IsFrontTaken};
-ghost use Rattle.keq_cli.specs.Words.{asked};
-ghost use Rattle.keq_cli.specs.Status.{IsAnswer};
-ghost use Rattle.keq_cli.specs.Reports.{bad_words_line, IsReport, IsReported, IsFrontReported};
-ghost use Rattle.keq_cli.specs.Texts.{HoldsNamed};
-ghost use Rattle.keq_cli.specs.Outcome.{Tells, IsOutcomeTaken, IsOutcomeFrontTaken};
+ghost use Rattle.std.specs.Prelude.{◌≡◌, ◌≢◌, ◌⊎◌, ◌<◌, ◌≤◌, None, IfSome};
+ghost use Rattle.keq_cli.specs.Outside.{Rose, IsTaken, IsFrontTaken, count_after};
+ghost use Rattle.keq_cli.specs.Words.{asked, file_count};
+ghost use Rattle.keq_cli.specs.Status.{IsAnswer, HasReport};
+ghost use Rattle.keq_cli.specs.Reports.{bad_words_line};
+ghost use Rattle.keq_cli.specs.Texts.{HoldsNamed, HoldsSteadily};
+ghost use Rattle.keq_cli.specs.Outcome.{IsReported, IsFrontReported};
 
 use crate::check::run_check;
 use crate::words::parse_words;
@@ -14,10 +14,10 @@ use std::alloc::Global;
 
 /// Runs one command: reads the words, fetches the texts that they name, judges them, and puts the report in one piece.
 ///
-/// `words` are those of the command line without the program's name. The one form is
-/// `check LEFT-SEMANTICS RIGHT-SEMANTICS LEFT-PROGRAM RIGHT-PROGRAM POINTS STEPS`; STEPS is one to five ASCII digits
-/// with a value from 1 to 10,000, and 1,000 where it is left out. All fetches come before the first text is loaded, in the order of the words. The
-/// first that fails ends the call.
+/// `words` are those of the command line without the program's name. They have one of two forms,
+/// `check LEFT-SEMANTICS RIGHT-SEMANTICS LEFT-PROGRAM RIGHT-PROGRAM POINTS`, and the same with a last word STEPS, of one to
+/// five ASCII digits with a value from 1 to 10,000. Without STEPS it is 1,000. All fetches come before the first text is
+/// loaded, in the order of the words, one for each file. The first that fails ends the call.
 ///
 /// What the clauses say of the bytes taken holds where the sink tells them, and what they say of the texts held where
 /// the shelf tells them. All else holds over every shelf and every sink. `NoMemory` is free, but for words of no form.
@@ -30,22 +30,25 @@ pub fn keq<F: Shelf, O: Sink>(alloc: Global, words: &[String], shelf: &mut F, ou
     ensures usage_alone { asked words.now ≡ None → shelf.new ≡ shelf.old }
     ensures usage_only { result ≡ Status.Usage → asked words.now ≡ None }
 
-    // Where the shelf tells what it holds, an answer, which is none of `ReadFault`, `WriteFault` and `NoMemory`, is the
-    // outcome: for every content of the five files the status, and exactly its report was taken. On `WriteFault` a front
-    // of such a report was taken.
-    ensures outcome { IsAnswer result → Tells (F.holds shelf.old) (asked words.now) → IsOutcomeTaken (F.holds shelf.old) (asked words.now) result (O.taken out.old) (O.taken out.new) }
-    ensures outcome_front { result ≡ Status.WriteFault → Tells (F.holds shelf.old) (asked words.now) → IsOutcomeFrontTaken (F.holds shelf.old) (asked words.now) (O.taken out.old) (O.taken out.new) }
-
-    // On an answer, which is none of `ReadFault`, `WriteFault` and `NoMemory`, the sink took exactly one report of it,
-    // and each named text is held.
-    ensures report { IsAnswer result → IsReported (O.taken out.old) result (O.taken out.new) }
+    // An answer, which is none of `ReadFault`, `WriteFault` and `NoMemory`, is an outcome of what the words ask for, and
+    // exactly its report was taken; on `WriteFault` a front of the report of an outcome. A check ends as some five texts
+    // do. Where the shelf tells what it holds, each named text is held, and the five are these: there is one outcome.
+    ensures outcome { IsAnswer result → IsReported (F.holds shelf.old) (asked words.now) result (O.taken out.old) (O.taken out.new) }
+    ensures front { result ≡ Status.WriteFault → IsFrontReported (F.holds shelf.old) (asked words.now) (O.taken out.old) (O.taken out.new) }
     ensures held { IsAnswer result → IfSome (F.holds shelf.old) (λ files. HoldsNamed files (asked words.now)) }
 
-    // `WriteFault` comes only where the sink's count rose, and wherever it is greater than before. A front of some
-    // report was taken.
+    // There are no more fetches than the words name files, and exactly as many where a report was put, whole or not.
+    ensures fetches { F.calls shelf.new ≤ count_after (file_count (asked words.now)) (F.calls shelf.old) }
+    ensures fetched { HasReport result → F.calls shelf.new ≡ count_after (file_count (asked words.now)) (F.calls shelf.old) }
+
+    // Neither count of faults falls. On an answer both are as before.
+    ensures read_count { F.faults shelf.old ≤ F.faults shelf.new }
+    ensures write_count { O.faults out.old ≤ O.faults out.new }
+    ensures counts { IsAnswer result → (F.faults shelf.new ≡ F.faults shelf.old) × (O.faults out.new ≡ O.faults out.old) }
+
+    // `WriteFault` comes only where the sink's count rose, and wherever it is greater than before.
     ensures write_cause { result ≡ Status.WriteFault → Rose (O.faults out.old) (O.faults out.new) }
     ensures write_told { O.faults out.old < O.faults out.new → result ≡ Status.WriteFault }
-    ensures write_front { result ≡ Status.WriteFault → IsFrontReported (O.taken out.old) (O.taken out.new) }
 
     // `ReadFault` comes only where the shelf's count rose, and wherever it is greater than before. The sink was not
     // called.
@@ -54,7 +57,7 @@ pub fn keq<F: Shelf, O: Sink>(alloc: Global, words: &[String], shelf: &mut F, ou
     ensures read_alone { result ≡ Status.ReadFault → out.new ≡ out.old }
 
     // It never comes over a steady shelf that holds each named text.
-    ensures read_steady { IsTrue (F.steady shelf.old) → IfSome (F.holds shelf.old) (λ files. HoldsNamed files (asked words.now)) → result ≢ Status.ReadFault }
+    ensures read_steady { HoldsSteadily (F.steady shelf.old) (F.holds shelf.old) (asked words.now) → result ≢ Status.ReadFault }
 
     // On `NoMemory` the sink was not called.
     ensures memory_alone { result ≡ Status.NoMemory → out.new ≡ out.old }
@@ -63,18 +66,20 @@ pub fn keq<F: Shelf, O: Sink>(alloc: Global, words: &[String], shelf: &mut F, ou
         return put_report(out, Status::Usage, b"bad command line\n");
     };
     match run_check(alloc, &check, shelf) {
-        Ok(ended) => put_report(out, ended.status, ended.report.as_slice()),
+        Ok(answer) => put_report(out, answer.status, answer.report.as_slice()),
         Err(Fetch::Failed) => Status::ReadFault,
         Err(Fetch::NoMemory) => Status::NoMemory,
     }
 }
 
-// Puts the whole report, and answers its status, or that the put failed.
+// Puts the whole report of an answer, and gives its status, or says that the put failed.
 fn put_report<O: Sink>(out: &mut O, status: Status, report: &[u8]) -> Status
-    requires { IsReport status report.now }
+    requires { IsAnswer status }
     ensures status { (result ≡ status) ⊎ (result ≡ Status.WriteFault) }
     ensures whole { IsAnswer result → IsTaken (O.taken out.old) report.now (O.taken out.new) }
     ensures front { IsFrontTaken (O.taken out.old) report.now (O.taken out.new) }
+    ensures count { O.faults out.old ≤ O.faults out.new }
+    ensures same { IsAnswer result → O.faults out.new ≡ O.faults out.old }
     ensures cause { result ≡ Status.WriteFault → Rose (O.faults out.old) (O.faults out.new) }
     ensures told { O.faults out.old < O.faults out.new → result ≡ Status.WriteFault }
 {

@@ -1,7 +1,7 @@
 // The words of a command line.
 ghost use Rattle.std.specs.Prelude.{◌≡◌, ◌≤◌, IfSome};
 ghost use Rattle.std.specs.Option.{option_map};
-ghost use Rattle.keq_cli.specs.Words.{asked, steps_of};
+ghost use Rattle.keq_cli.specs.Words.{asked, step_count_of};
 ghost use Rattle.keq_cli.specs.Asked.{check_view};
 
 // How many steps a run may take where the words don't say.
@@ -51,7 +51,7 @@ pub fn parse_words<'a>(words: &'a [String]) -> Option<Check<'a>>
 
 // The number of one to five decimal digits, from 1 to 10,000. `parse` alone would take a plus in front.
 fn parse_steps(word: &str) -> Option<u32>
-    ensures value { result ≡ steps_of word.now }
+    ensures value { result ≡ step_count_of word.now }
     ensures some { IfSome result (λ steps. 1 ≤ steps) }
 {
     if word.len() > 5 || word.starts_with('+') {

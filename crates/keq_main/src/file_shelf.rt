@@ -13,15 +13,21 @@ const CHUNK: usize = 4096;
 #[derive(Drop)]
 pub struct FileShelf<R: Files + Drop> {
     rt: R,
+    calls: u64,
     faults: u64,
 }
 
 impl<R: Files + Drop> FileShelf<R> {
-    /// No fetch has failed.
+    /// No text was fetched, and no fetch has failed.
     pub fn new(rt: R) -> FileShelf<R>
-        ensures { ⟦<FileShelf<R> as Shelf>⟧.faults result ≡ 0 }
+        ensures calls { ⟦<FileShelf<R> as Shelf>⟧.calls result ≡ 0 }
+        ensures faults { ⟦<FileShelf<R> as Shelf>⟧.faults result ≡ 0 }
     {
-        FileShelf { rt, faults: 0 }
+        FileShelf {
+            rt,
+            calls: 0,
+            faults: 0,
+        }
     }
 }
 
@@ -49,11 +55,14 @@ impl<R: Files + Drop> Shelf for FileShelf<R> {
 
     ghost faults = { λ s. s.faults };
 
+    ghost calls = { λ s. s.calls };
+
     ghost steady = { λ _. false };
 
     ghost steady_tells = { λ s steady. Prim.cc };
 
     fn fetch(&mut self, alloc: Global, name: &str, most: usize) -> Result<Vec<u8>, Fetch> {
+        self.calls = self.calls.saturating_add(1);
         let fetched = match fs::open(&self.rt, name) {
             Ok(mut file) => read_front(alloc, &mut file, most),
             Err(_) => Err(Fetch::Failed),

@@ -1,52 +1,56 @@
-use Rattle.std.proofs.Common.{sym, subst}
-use Rattle.keq_cli.specs.Asked.{names_view}
+use Rattle.std.proofs.Common.{Option, sym, subst}
 use Rattle.keq_cli.specs.Outcome.{Outcome}
-use Rattle.keq_cli.specs.Words.{asked}
+use Rattle.keq_cli.specs.Words.{Command, asked}
+use Rattle.keq_cli.specs.Reports.{bad_words_line}
 use Rattle.keq_cli.specs.declared.status.Status.{Status}
 use Rattle.keq_cli.specs.declared.status.Status.TheVariants.{Usage}
-use Rattle.keq_cli.specs.Reports.{bad_words, bad_words_line}
-use Rattle.keq_cli.proofs.Answered.{answered}
-use Rattle.keq_cli.proofs.Outcomes.{wanted, usage_outcome, check_outcome, other_report}
+use Rattle.keq_cli.proofs.Outcomes.{wanted, usage_outcome, check_answers, put_check}
 use Rattle.keq_cli.proofs.top.keq.Goals as goal
 
-pub put_report-requires : goal.put_report-requires
-put_report-requires g c = bad_words
-
-pub returns-in_default-clause-report : goal.returns-in_default-clause-report
-returns-in_default-clause-report g c = λ answer. (bad_words_line, answered bad_words c.put_report.ensures.status answer, c.put_report.ensures.whole answer)
-
-pub returns-in_default-clause-write_front : goal.returns-in_default-clause-write_front
-returns-in_default-clause-write_front g c = λ failed. (Usage, (bad_words_line, (bad_words, c.put_report.ensures.front)))
-
 pub returns-in_default-clause-outcome : goal.returns-in_default-clause-outcome
-returns-in_default-clause-outcome g c = λ answer tells.
+returns-in_default-clause-outcome g c = λ answer.
     let held = g.F.Shelf.holds c.args.shelf.now in
     let command = asked c.args.words.now in
     let outcome = usage_outcome held command c.in_default.ensures.asked in
     (bad_words_line, subst (λ (s : Status). Outcome held command s bad_words_line) (sym (wanted c.put_report.ensures.status answer)) outcome, c.put_report.ensures.whole answer)
 
-pub returns-in_default-clause-outcome_front : goal.returns-in_default-clause-outcome_front
-returns-in_default-clause-outcome_front g c = λ failed tells. (Usage, (bad_words_line, (usage_outcome (g.F.Shelf.holds c.args.shelf.now) (asked c.args.words.now) c.in_default.ensures.asked, c.put_report.ensures.front)))
+pub returns-in_default-clause-front : goal.returns-in_default-clause-front
+returns-in_default-clause-front g c = λ failed. (Usage, (bad_words_line, (usage_outcome (g.F.Shelf.holds c.args.shelf.now) (asked c.args.words.now) c.in_default.ensures.asked, c.put_report.ensures.front)))
 
 pub returns-in-Ok-clause-outcome : goal.returns-in-Ok-clause-outcome
-returns-in-Ok-clause-outcome g c = λ answer tells.
+returns-in-Ok-clause-outcome g c = λ answered.
     let held = g.F.Shelf.holds c.args.shelf.now in
     let command = asked c.args.words.now in
-    let names = names_view c.in-Some.check in
-    let steps = c.in-Some.check.steps in
-    let ended = c.in-Ok.ended in
+    let answer = c.in-Ok.answer in
     let text = c.as_slice.result.now in
-    let ends = other_report held names steps ended.status ended.report.items text c.as_slice.ensures.value c.in-Ok.ensures.ends in
-    let outcome = check_outcome held command names steps ended.status text c.in-Some.ensures.asked tells ends in
-    (text, subst (λ (s : Status). Outcome held command s text) (sym (wanted c.put_report-in-Ok.ensures.status answer)) outcome, c.put_report-in-Ok.ensures.whole answer)
+    let of_words : Outcome held command answer.status answer.report.items = subst (λ (asks : Option Command). Outcome held asks answer.status answer.report.items) c.in-Some.ensures.asked c.in-Ok.ensures.outcome in
+    let of_text : Outcome held command answer.status text = subst (Outcome held command answer.status) (sym c.as_slice.ensures.value) of_words in
+    (text, subst (λ (s : Status). Outcome held command s text) (sym (wanted c.put_report-in-Ok.ensures.status answered)) of_text, c.put_report-in-Ok.ensures.whole answered)
 
-pub returns-in-Ok-clause-outcome_front : goal.returns-in-Ok-clause-outcome_front
-returns-in-Ok-clause-outcome_front g c = λ failed tells.
+pub returns-in-Ok-clause-front : goal.returns-in-Ok-clause-front
+returns-in-Ok-clause-front g c = λ failed.
     let held = g.F.Shelf.holds c.args.shelf.now in
     let command = asked c.args.words.now in
-    let names = names_view c.in-Some.check in
-    let steps = c.in-Some.check.steps in
-    let ended = c.in-Ok.ended in
+    let answer = c.in-Ok.answer in
     let text = c.as_slice.result.now in
-    let ends = other_report held names steps ended.status ended.report.items text c.as_slice.ensures.value c.in-Ok.ensures.ends in
-    (ended.status, (text, (check_outcome held command names steps ended.status text c.in-Some.ensures.asked tells ends, c.put_report-in-Ok.ensures.front)))
+    let of_words : Outcome held command answer.status answer.report.items = subst (λ (asks : Option Command). Outcome held asks answer.status answer.report.items) c.in-Some.ensures.asked c.in-Ok.ensures.outcome in
+    let of_text : Outcome held command answer.status text = subst (Outcome held command answer.status) (sym c.as_slice.ensures.value) of_words in
+    (answer.status, (text, (of_text, c.put_report-in-Ok.ensures.front)))
+
+pub returns-in-Ok-clause-usage_whole : goal.returns-in-Ok-clause-usage_whole
+returns-in-Ok-clause-usage_whole g c = λ is. absurd ((put_check (check_answers _ _ _ _ c.in-Ok.ensures.outcome) c.put_report-in-Ok.ensures.status).0 is)
+
+pub returns-in-Ok-clause-usage_only : goal.returns-in-Ok-clause-usage_only
+returns-in-Ok-clause-usage_only g c = λ is. absurd ((put_check (check_answers _ _ _ _ c.in-Ok.ensures.outcome) c.put_report-in-Ok.ensures.status).0 is)
+
+pub returns-in-Ok-clause-read_cause : goal.returns-in-Ok-clause-read_cause
+returns-in-Ok-clause-read_cause g c = λ is. absurd ((put_check (check_answers _ _ _ _ c.in-Ok.ensures.outcome) c.put_report-in-Ok.ensures.status).1 is)
+
+pub returns-in-Ok-clause-read_alone : goal.returns-in-Ok-clause-read_alone
+returns-in-Ok-clause-read_alone g c = λ is. absurd ((put_check (check_answers _ _ _ _ c.in-Ok.ensures.outcome) c.put_report-in-Ok.ensures.status).1 is)
+
+pub returns-in-Ok-clause-read_steady : goal.returns-in-Ok-clause-read_steady
+returns-in-Ok-clause-read_steady g c = λ steady is. (put_check (check_answers _ _ _ _ c.in-Ok.ensures.outcome) c.put_report-in-Ok.ensures.status).1 is
+
+pub returns-in-Ok-clause-memory_alone : goal.returns-in-Ok-clause-memory_alone
+returns-in-Ok-clause-memory_alone g c = λ is. absurd ((put_check (check_answers _ _ _ _ c.in-Ok.ensures.outcome) c.put_report-in-Ok.ensures.status).2 is)

@@ -4,7 +4,7 @@ use Rattle.std.proofs.lemmas.Option.{same_Some}
 use Rattle.sort_term.specs.declared.points.Point.{Point}
 use Rattle.sort_term.proofs.Standing.{get-some}
 use Rattle.keq_cli.specs.Reports.{point_line}
-use Rattle.keq_cli.proofs.judge.report_at.Goals as goal
+use Rattle.keq_cli.proofs.answer.report_at.Goals as goal
 
 -- the pieces of a report, one behind the other
 joined : (line name first second third fourth : List ℕ) → first ≡ line → second ≡ first ++ codes "point " → third ≡ second ++ name → fourth ≡ third ++ 10 ∷ [] → fourth ≡ line ++ point_line name

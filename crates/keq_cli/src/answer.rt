@@ -1,4 +1,4 @@
-// Loads five texts and judges what they say.
+// Loads five texts, judges what they say, and answers a status with its report.
 ghost use Rattle.std.specs.Prelude.{◌≡◌, ◌<◌, ◌≤◌, ◌++◌, All, IfOk, Some, length, slice_get};
 ghost use Rattle.sort_term.specs.declared.points.Point.{Point};
 ghost use Rattle.ground_judge.specs.Ground.{IsGroundPoint};
@@ -14,46 +14,46 @@ use ground_judge::{FailedTest, VerdictKind};
 use sort_term::{Point, Problem};
 use std::alloc::Global;
 
-/// How a call ended, and its report.
+/// A status that a call may end with, and its report.
 #[derive(Debug, Drop)]
-pub struct Ended {
+pub struct Answer {
     pub status: Status,
     pub report: Vec<u8>,
 }
 
 /// Loads the texts in the order of the words and judges the points, by runs of at most so many steps, at least 1.
-pub fn judge(alloc: Global, texts: &Texts, steps: u32) -> Result<Ended, NoMemory>
+pub fn answer_texts(alloc: Global, texts: &Texts, steps: u32) -> Result<Answer, NoMemory>
     requires { 1 ≤ steps }
-    ensures { IfOk result (λ ended. CheckEnds (texts_of texts.now) steps ended.status ended.report.items) }
+    ensures { IfOk result (λ answer. CheckEnds (texts_of texts.now) steps answer.status answer.report.items) }
 {
     match load_all(alloc, texts) {
-        Ok(problem) => judged(alloc, &problem, steps),
+        Ok(problem) => answer_problem(alloc, &problem, steps),
         Err(Unloaded::Unread(role)) => unread(alloc, role),
         Err(Unloaded::NoMemory) => Err(NoMemory),
     }
 }
 
 // The report of the verdict.
-fn judged(alloc: Global, problem: &Problem, steps: u32) -> Result<Ended, NoMemory>
+fn answer_problem(alloc: Global, problem: &Problem, steps: u32) -> Result<Answer, NoMemory>
     requires ground { All IsGroundPoint problem.now.points.points }
     requires steps { 1 ≤ steps }
-    ensures { IfOk result (λ ended. IsJudged problem.now steps ended.status ended.report.items) }
+    ensures { IfOk result (λ answer. IsJudged problem.now steps answer.status answer.report.items) }
 {
     let points = problem.points.points.as_slice();
     match ground_judge::judge(alloc, problem, steps)? {
-        VerdictKind::Equivalent => Ok(Ended {
+        VerdictKind::Equivalent => Ok(Answer {
             status: Status::Equivalent,
             report: Vec::from_slice(alloc, b"equivalent\n")?,
         }),
-        VerdictKind::Refines { point } => Ok(Ended {
+        VerdictKind::Refines { point } => Ok(Answer {
             status: Status::Refines,
             report: report_at(alloc, "refines\n", points, point)?,
         }),
-        VerdictKind::Unmatched { point } => Ok(Ended {
+        VerdictKind::Unmatched { point } => Ok(Answer {
             status: Status::Unmatched,
             report: report_at(alloc, "unmatched\n", points, point)?,
         }),
-        VerdictKind::NotGrounded { point, test } => Ok(Ended {
+        VerdictKind::NotGrounded { point, test } => Ok(Answer {
             status: Status::NotGrounded,
             report: report_at(alloc, not_grounded_line(test), points, point)?,
         }),
@@ -85,13 +85,13 @@ fn report_at(alloc: Global, line: &str, points: &[Point], place: usize) -> Resul
 }
 
 // The refusal of a text that does not load.
-fn unread(alloc: Global, role: Role) -> Result<Ended, NoMemory>
-    ensures { IfOk result (λ ended. (ended.status ≡ Status.Refused) × (ended.report.items ≡ unread_line role)) }
+fn unread(alloc: Global, role: Role) -> Result<Answer, NoMemory>
+    ensures { IfOk result (λ answer. (answer.status ≡ Status.Refused) × (answer.report.items ≡ unread_line role)) }
 {
     let mut report = Vec::from_slice(alloc, b"refused ")?;
     report.extend_from_slice(role.name().as_bytes())?;
     report.extend_from_slice(b" unread\n")?;
-    Ok(Ended {
+    Ok(Answer {
         status: Status::Refused,
         report,
     })

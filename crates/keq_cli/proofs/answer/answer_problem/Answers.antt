@@ -5,7 +5,7 @@ use Rattle.ground_judge.specs.Kinds.{kind_of, test_of}
 use Rattle.keq_cli.specs.Outcome.{IsJudged, equivalent, refines, unmatched, not_grounded}
 use Rattle.keq_cli.specs.Reports.{point_line}
 use Rattle.keq_cli.specs.declared.status.Status.TheVariants.{Equivalent, Refines, Unmatched, NotGrounded}
-use Rattle.keq_cli.proofs.judge.judged.Goals as goal
+use Rattle.keq_cli.proofs.answer.answer_problem.Goals as goal
 
 pub returns-in_ok-from_slice-in-Equivalent : goal.returns-in_ok-from_slice-in-Equivalent
 returns-in_ok-from_slice-in-Equivalent c =

@@ -1,0 +1,9 @@
+-- Which text a refusal names.
+use Rattle.std.specs.Prelude.{◌≡◌, Result, IsErrOf}
+use Rattle.keq_cli.specs.declared.loading.Unloaded.{Unloaded}
+use Rattle.keq_cli.specs.declared.loading.Unloaded.TheVariants.{Unread}
+use Rattle.keq_cli.specs.declared.texts.Role.{Role}
+
+-- a refusal names this text, and comes only where this holds of it
+abbrev pub RefusesWhere : {T : Type 0} → Result T Unloaded → Role → Type 0 → Type 0
+RefusesWhere result role fact = (named : Role) → IsErrOf result (Unread named) → (named ≡ role) × fact
