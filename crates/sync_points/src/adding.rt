@@ -2,9 +2,6 @@
 ghost use Rattle.std.specs.Prelude.{◌≡◌, IfOk};
 ghost use Rattle.rule_text.specs.Turns.{InTurn};
 ghost use Rattle.rule_text.specs.Unread.{UnreadOnlyIfNone};
-ghost use Rattle.sort_term.specs.declared.points.Cut.{Cut};
-ghost use Rattle.sort_term.specs.declared.points.Point.{Point};
-ghost use Rattle.sort_term.specs.declared.points.Points.{Points};
 ghost use Rattle.name_resolution.specs.Known.{vocabulary_of};
 ghost use Rattle.sync_points.specs.Adds.{nothing, known_of_both, vocabularies_of, AddsLeft, AddsRight, AddsPoint, IsCutText, IsPointText, Adds};
 
