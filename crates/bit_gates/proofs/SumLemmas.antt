@@ -11,13 +11,13 @@ use Rattle.data_value.specs.Words.{wrap, signed_rank}
 use Rattle.bit_gates.specs.Bits.{bit, number, constant_lit}
 use Rattle.bit_gates.specs.Grows.{Grows}
 use Rattle.bit_gates.specs.Meaning.{HasLit, IsWord, IsBit}
-use Rattle.bit_gates.specs.Sums.{IsBitSum, IsSum}
+use Rattle.bit_gates.specs.Sums.{bit_sum_of, sum_of, IsBitSum, IsSum}
 use Rattle.bit_gates.proofs.KnownLemmas.{known, bit_same, bit_flipped}
 use Rattle.bit_gates.proofs.WordLemmas.{word_same, number_flips, number_replicate, take_all}
 use Rattle.bit_gates.proofs.RangeLemmas.{clause_below_more, clause_below_append, one_below}
 use Rattle.bit_gates.proofs.NumberLemmas.{number_nil, number_append, number_take, number_below, doubled}
 
-pub sum_none : (b : Builder) (xs ys zs : List Lit) (c : Lit) → zs ≡ [] → HasLit b c → IsSum b (take 0 xs) (take 0 ys) c zs c
+pub sum_none : (b : Builder) (xs ys zs : List Lit) (c : Lit) → zs ≡ [] → HasLit b c → IsSum b (take 0 xs) (take 0 ys) c (sum_of zs c)
 unfolding clause_below
 sum_none b xs ys zs c e h = record {
   low = rw e refl;
@@ -32,8 +32,8 @@ digit p q x x' y y' z z' u v s d e c hq hz hx hy h k =
     let m : p * (s + 2 * d) ≡ p * (u + v + e) = ap (λ (n : ℕ). p * n) k in
     rw (hq, hz, hx, hy) (omega arith)
 
-pub sum_more : (b b' : Builder) (xs ys zs : List Lit) (c d s e x0 : Lit) (i : ℕ) → IsSum b (take i xs) (take i ys) c zs d → Grows b b' → i < length xs → length ys ≡ length xs
-    → IsBitSum b' (get_or xs i x0) (get_or ys i x0) d s e → IsSum b' (take (i + 1) xs) (take (i + 1) ys) c (zs ++ s ∷ []) e
+pub sum_more : (b b' : Builder) (xs ys zs : List Lit) (c d s e x0 : Lit) (i : ℕ) → IsSum b (take i xs) (take i ys) c (sum_of zs d) → Grows b b' → i < length xs → length ys ≡ length xs
+    → IsBitSum b' (get_or xs i x0) (get_or ys i x0) d (bit_sum_of s e) → IsSum b' (take (i + 1) xs) (take (i + 1) ys) c (sum_of (zs ++ s ∷ []) e)
 sum_more b b' xs ys zs c d s e x0 i h g l w t =
     let lx : length (take i xs) ≡ i = length-take-le i xs (omega arith) in
     let lx1 : length (take (i + 1) xs) ≡ i + 1 = length-take-le (i + 1) xs (omega arith) in
@@ -54,7 +54,7 @@ sum_more b b' xs ys zs c d s e x0 i h g l w t =
           digit (2 ^ i) _ _ _ _ _ _ _ _ _ _ _ _ _ p ez ex ey m1 n;
     }
 
-pub sum_all : (b : Builder) (xs ys zs : List Lit) (c d : Lit) (i : ℕ) → i ≡ length xs → length ys ≡ length xs → IsSum b (take i xs) (take i ys) c zs d → IsSum b xs ys c zs d
+pub sum_all : (b : Builder) (xs ys zs : List Lit) (c d : Lit) (i : ℕ) → i ≡ length xs → length ys ≡ length xs → IsSum b (take i xs) (take i ys) c (sum_of zs d) → IsSum b xs ys c (sum_of zs d)
 sum_all b xs ys zs c d i e w h = rw (take_all xs i e, take_all ys i (omega arith)) at h
 
 -- ---- a sum with no carry in
@@ -63,7 +63,7 @@ added p z d x y l e =
     let f : x + y ≡ z + p * d = omega arith in
     sym (ap (λ (n : ℕ). n % p) f ∙ add-mul-mod_self_left z p d ∙ mod-eq_of_lt l)
 
-pub is_added : (b : Builder) (xs ys zs : List Lit) (c d : Lit) → c ≡ constant_lit false → IsSum b xs ys c zs d → IsWord b zs (length xs) (λ a. wrap (length xs) (number a xs + number a ys))
+pub is_added : (b : Builder) (xs ys zs : List Lit) (c d : Lit) → c ≡ constant_lit false → IsSum b xs ys c (sum_of zs d) → IsWord b zs (length xs) (λ a. wrap (length xs) (number a xs + number a ys))
 is_added b xs ys zs c d e h = record {
   in_range = h.low;
   width = h.width;
@@ -84,7 +84,7 @@ is_below : (p x y n z : ℕ) (d : Bool) → z + p * bit d ≡ x + n + 1 → n + 
 is_below p x y n z true h k l = sym (le-ltb x y (omega arith))
 is_below p x y n z false h k l = sym (lt-ltb x y (omega arith))
 
-pub is_difference : (b : Builder) (xs ys fs zs : List Lit) (c d : Lit) → c ≡ constant_lit true → fs ≡ map flipped ys → length ys ≡ length xs → IsSum b xs fs c zs d
+pub is_difference : (b : Builder) (xs ys fs zs : List Lit) (c d : Lit) → c ≡ constant_lit true → fs ≡ map flipped ys → length ys ≡ length xs → IsSum b xs fs c (sum_of zs d)
     → IsWord b zs (length xs) (λ a. (number a xs + 2 ^ length xs - number a ys) % 2 ^ length xs)
 is_difference b xs ys fs zs c d e f w h = record {
   in_range = h.low;
@@ -98,7 +98,7 @@ is_difference b xs ys fs zs c d e f w h = record {
       difference (2 ^ length xs) (number a xs) (number a ys) (number a fs) (number a zs) (lit_true a d) (rw one at m) (rw n k) l;
 }
 
-pub is_order : (b : Builder) (xs ys fs zs : List Lit) (c d r : Lit) → c ≡ constant_lit true → fs ≡ map flipped ys → length ys ≡ length xs → r ≡ flipped d → IsSum b xs fs c zs d
+pub is_order : (b : Builder) (xs ys fs zs : List Lit) (c d r : Lit) → c ≡ constant_lit true → fs ≡ map flipped ys → length ys ≡ length xs → r ≡ flipped d → IsSum b xs fs c (sum_of zs d)
     → IsBit b r (λ a. nat_lt (number a xs) (number a ys))
 is_order b xs ys fs zs c d r e f w q h = record {
   in_range = rw q h.high;

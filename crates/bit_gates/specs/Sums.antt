@@ -3,19 +3,28 @@ use Rattle.std.specs.Prelude.{ℕ, ◌≡◌, ◌+◌, ◌*◌, ◌^◌, Bool, L
 use Rattle.refute_check.specs.declared.lit.Lit.{Lit}
 use Rattle.refute_check.specs.Truth.{lit_true}
 use Rattle.bit_gates.specs.declared.builder.Builder.{Builder}
+use Rattle.bit_gates.specs.declared.sums.BitSum.{BitSum}
+use Rattle.bit_gates.specs.declared.sums.Sum.{Sum}
 use Rattle.bit_gates.specs.Bits.{bit, number}
 use Rattle.bit_gates.specs.Grows.{Holds}
 use Rattle.bit_gates.specs.Meaning.{HasLit, HasLits}
 
--- the sum of three bits has the low bit s and the high bit d
-pub record IsBitSum (b : Builder) (x y c s d : Lit) : Type 0 where
-  pub low : HasLit b s
-  pub high : HasLit b d
-  pub means : (a : ℕ → Bool) → Holds b a → bit (lit_true a s) + 2 * bit (lit_true a d) ≡ bit (lit_true a x) + bit (lit_true a y) + bit (lit_true a c)
+-- a sum of three bits, by its two bits, and a sum of words, by its bits and the one above them
+abbrev pub bit_sum_of : Lit → Lit → BitSum
+bit_sum_of low high = record { low = low; high = high }
 
--- the sum of two words and the bit c has the bits zs and, above these, the bit d
-pub record IsSum (b : Builder) (xs ys : List Lit) (c : Lit) (zs : List Lit) (d : Lit) : Type 0 where
-  pub low : HasLits b zs
-  pub high : HasLit b d
-  pub width : length zs ≡ length xs
-  pub means : (a : ℕ → Bool) → Holds b a → number a zs + 2 ^ length xs * bit (lit_true a d) ≡ number a xs + number a ys + bit (lit_true a c)
+abbrev pub sum_of : List Lit → Lit → Sum
+sum_of bits carry = record { bits = bits; carry = carry }
+
+-- s is the sum of three bits
+pub record IsBitSum (b : Builder) (x y c : Lit) (s : BitSum) : Type 0 where
+  pub low : HasLit b s.low
+  pub high : HasLit b s.high
+  pub means : (a : ℕ → Bool) → Holds b a → bit (lit_true a s.low) + 2 * bit (lit_true a s.high) ≡ bit (lit_true a x) + bit (lit_true a y) + bit (lit_true a c)
+
+-- s is the sum of two words and the bit c
+pub record IsSum (b : Builder) (xs ys : List Lit) (c : Lit) (s : Sum) : Type 0 where
+  pub low : HasLits b s.bits
+  pub high : HasLit b s.carry
+  pub width : length s.bits ≡ length xs
+  pub means : (a : ℕ → Bool) → Holds b a → number a s.bits + 2 ^ length xs * bit (lit_true a s.carry) ≡ number a xs + number a ys + bit (lit_true a c)

@@ -65,7 +65,7 @@ pub(crate) fn add_words(b: &mut Builder, x: &[Lit], y: &[Lit], c: Lit) -> Result
     requires c { HasLit b.old c }
     requires same { length y.now ≡ length x.now }
     ensures extends { OnOk result (Grows b.old b.new) }
-    ensures made { IfOk result (λ r. IsSum b.new x.now y.now c r.bits r.carry) }
+    ensures made { IfOk result (IsSum b.new x.now y.now c) }
 {
     let mut bits = Items::new(b.alloc);
     let mut carry = c;
@@ -90,7 +90,7 @@ fn add_bits(b: &mut Builder, x: Lit, y: Lit, c: Lit) -> Result<BitSum, NoMemory>
     requires y { HasLit b.old y }
     requires c { HasLit b.old c }
     ensures extends { OnOk result (Grows b.old b.new) }
-    ensures made { IfOk result (λ r. IsBitSum b.new x y c r.low r.high) }
+    ensures made { IfOk result (IsBitSum b.new x y c) }
 {
     let differ = xor(b, x, y)?;
     let low = xor(b, differ, c)?;

@@ -48,5 +48,5 @@ abbrev pub con_of : Vocabulary → List ℕ → Option (ConId × Con)
 con_of known name = option_and_then (con_at known) (place_of name (map (λ c. c.name) known.cons))
 
 -- the bit vector of a width from 1 to 64 and a number that the width holds
-abbrev pub word_of : ℕ → ℕ → Option Scalar
-word_of width n = if is_scalar (Word width n) then Some (Word width n) else None
+abbrev pub literal_of : ℕ → ℕ → Option Scalar
+literal_of width n = if is_scalar (Word width n) then Some (Word width n) else None

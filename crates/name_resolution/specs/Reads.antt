@@ -17,7 +17,7 @@ use Rattle.sort_term.specs.declared.rule.RuleExpr.{RuleExpr}
 use Rattle.sort_term.specs.declared.rule.RuleExpr.TheVariants as expr
 use Rattle.sort_term.specs.Sorted.{in_front}
 use Rattle.name_resolution.specs.Names.{place_of}
-use Rattle.name_resolution.specs.Known.{Vocabulary, con_of, word_of}
+use Rattle.name_resolution.specs.Known.{Vocabulary, con_of, literal_of}
 
 -- what a written tree says by itself: a bare number, which is a literal only by its place; a pattern or an expression; or nothing that is known
 pub data Said (X : Type 0) : Type 0 where
@@ -37,7 +37,7 @@ heard nothing = None
 
 -- a bare number in a place of this sort, if the place has one: the literal of its width, where it is one of bit vectors
 abbrev pub number_at : Option Sort → ℕ → Option Scalar
-number_at (Some (Plain (BitsSort width))) n = word_of width n
+number_at (Some (Plain (BitsSort width))) n = literal_of width n
 number_at _ n = None
 
 -- an argument in a place of this sort, where a literal is made into one
@@ -78,7 +78,7 @@ applied_op (Some op) parts = option_map (expr.Op op) (arguments literal_expressi
 abbrev pub pattern_said : Vocabulary → List Var → RawTree-F (Said Pattern) → Said Pattern
 pattern_said known vars (RawTree-F.Word name) = said (option_map pattern.Bind (variable_of vars name))
 pattern_said known vars (RawTree-F.Number n) = bare n
-pattern_said known vars (RawTree-F.Bits width n) = said (option_map pattern.Exact (word_of width n))
+pattern_said known vars (RawTree-F.Bits width n) = said (option_map pattern.Exact (literal_of width n))
 pattern_said known vars (RawTree-F.Con name parts) = said (applied_con pattern.Exact pattern.Con (con_of known name) parts)
 pattern_said known vars (RawTree-F.Op name parts) = nothing
 
@@ -94,7 +94,7 @@ pattern_of known vars raw = heard (pattern_says known vars raw)
 abbrev pub expression_said : Vocabulary → List Var → RawTree-F (Said RuleExpr) → Said RuleExpr
 expression_said known vars (RawTree-F.Word name) = said (option_map expr.Var (variable_of vars name))
 expression_said known vars (RawTree-F.Number n) = bare n
-expression_said known vars (RawTree-F.Bits width n) = said (option_map literal_expression (word_of width n))
+expression_said known vars (RawTree-F.Bits width n) = said (option_map literal_expression (literal_of width n))
 expression_said known vars (RawTree-F.Con name parts) = said (applied_con literal_expression expr.Con (con_of known name) parts)
 expression_said known vars (RawTree-F.Op name parts) = said (applied_op (operator_of name) parts)
 

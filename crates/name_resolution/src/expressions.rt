@@ -1,7 +1,7 @@
 // Expressions.
 ghost use Rattle.std.specs.Prelude.{◌≡◌, None, Some, IfOk, IsErrOf, map, option_copied};
 ghost use Rattle.rule_text.specs.declared.error.LoadError.{LoadError};
-ghost use Rattle.sort_term.specs.declared.rule.RuleExpr.{RuleExpr};
+ghost use Rattle.rule_text.specs.Unread.{UnreadOnlyIfNone};
 ghost use Rattle.name_resolution.specs.Known.{vocabulary_of};
 ghost use Rattle.name_resolution.specs.Reads.{argument, arguments, literal_expression, operator_of, expression_says, expression_of};
 ghost use Rattle.name_resolution.specs.Written.{IsExpressionText};
@@ -27,8 +27,7 @@ pub fn expression(
     raw: &RawTree,
 ) -> Result<RuleExpr, LoadError>
     ensures ok { IfOk result (IsExpressionText (vocabulary_of known.now) variables.now raw.now) }
-    ensures unread { IsErrOf result LoadError.Unread →
-        (e : RuleExpr) → ¬ IsExpressionText (vocabulary_of known.now) variables.now raw.now e }
+    ensures unread { UnreadOnlyIfNone result (IsExpressionText (vocabulary_of known.now) variables.now raw.now) }
 {
     if !is_short(raw) {
         return Err(LoadError::Unread);

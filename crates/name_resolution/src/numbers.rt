@@ -1,7 +1,7 @@
 // Numbers with a width.
 ghost use Rattle.std.specs.Prelude.{◌≡◌, option_copied};
 ghost use Rattle.data_value.specs.Sorts.{is_width};
-ghost use Rattle.name_resolution.specs.Known.{word_of};
+ghost use Rattle.name_resolution.specs.Known.{literal_of};
 ghost use Rattle.name_resolution.specs.Reads.{number_at};
 
 use data_value::{DataSort, Scalar, Value, is_value};
@@ -16,7 +16,7 @@ pub fn is_width(width: u64) -> bool
 
 /// The bit vector of a width and a number; None where the width is not from 1 to 64 or doesn't hold the number.
 pub fn bits(width: u64, number: u64) -> Option<Scalar>
-    ensures { result ≡ word_of width number }
+    ensures { result ≡ literal_of width number }
 {
     if !is_width(width) {
         return None;

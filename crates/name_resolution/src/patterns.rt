@@ -1,6 +1,7 @@
 // Patterns.
 ghost use Rattle.std.specs.Prelude.{◌≡◌, None, Some, IfOk, IsErrOf, map, option_copied};
 ghost use Rattle.rule_text.specs.declared.error.LoadError.{LoadError};
+ghost use Rattle.rule_text.specs.Unread.{UnreadOnlyIfNone};
 ghost use Rattle.sort_term.specs.declared.rule.Pattern.{Pattern};
 ghost use Rattle.name_resolution.specs.Known.{vocabulary_of};
 ghost use Rattle.name_resolution.specs.Reads.{argument, arguments, pattern_says, pattern_of};
@@ -25,8 +26,7 @@ pub fn pattern(
     raw: &RawTree,
 ) -> Result<Pattern, LoadError>
     ensures ok { IfOk result (IsPatternText (vocabulary_of known.now) variables.now raw.now) }
-    ensures unread { IsErrOf result LoadError.Unread →
-        (p : Pattern) → ¬ IsPatternText (vocabulary_of known.now) variables.now raw.now p }
+    ensures unread { UnreadOnlyIfNone result (IsPatternText (vocabulary_of known.now) variables.now raw.now) }
 {
     if !is_short(raw) {
         return Err(LoadError::Unread);

@@ -1,7 +1,7 @@
 // The variables of a rule or a cut.
-ghost use Rattle.std.specs.Prelude.{◌≡◌, [], List, None, Some, IfOk, IsErrOf};
+ghost use Rattle.std.specs.Prelude.{◌≡◌, [], None, Some, IfOk, IsErrOf};
 ghost use Rattle.rule_text.specs.declared.error.LoadError.{LoadError};
-ghost use Rattle.sort_term.specs.declared.rule.Var.{Var};
+ghost use Rattle.rule_text.specs.Unread.{UnreadOnlyIfNone};
 ghost use Rattle.name_resolution.specs.Known.{vocabulary_of};
 ghost use Rattle.name_resolution.specs.Reads.{variable_of};
 ghost use Rattle.name_resolution.specs.Written.{variable, AreVariablesText};
@@ -68,8 +68,7 @@ pub fn declared_variables(
     raws: &[RawVar],
 ) -> Result<Variables, LoadError>
     ensures ok { IfOk result (AreVariablesText (vocabulary_of known.now) raws.now) }
-    ensures unread { IsErrOf result LoadError.Unread →
-        (vars : List Var) → ¬ AreVariablesText (vocabulary_of known.now) raws.now vars }
+    ensures unread { UnreadOnlyIfNone result (AreVariablesText (vocabulary_of known.now) raws.now) }
 {
     let mut names = NameTable::new(alloc);
     let mut vars = Items::new(alloc);

@@ -1,10 +1,9 @@
 //! The program that a text writes.
 #![tactic(auto)]
 
-ghost use Rattle.std.specs.Prelude.{◌≡◌, List, [], map, IfOk, IsErrOf};
+ghost use Rattle.std.specs.Prelude.{◌≡◌, [], map, IfOk, IsErrOf};
 ghost use Rattle.rule_text.specs.declared.error.LoadError.{LoadError};
 ghost use Rattle.rule_text.specs.Unread.{UnreadOnlyIfNone};
-ghost use Rattle.sort_term.specs.Step.{Tables};
 ghost use Rattle.program_text.specs.Text.{IsProgramText};
 
 mod laws;

@@ -18,6 +18,7 @@ ghost use Rattle.std.specs.Prelude.{
 ghost use Rattle.sexp_text.specs.Printed.{without_spans};
 ghost use Rattle.sexp_text.specs.declared.form.Form.{Form};
 ghost use Rattle.rule_text.specs.Plain.{plain_word, plain_number, plain_list};
+ghost use Rattle.rule_text.specs.Unread.{UnreadOnlyIfNone};
 ghost use Rattle.rule_text.specs.Writes.{
   WritesDemand,
   WritesDemands,
@@ -33,11 +34,8 @@ ghost use Rattle.rule_text.specs.Written.{
   side_word,
 };
 ghost use Rattle.rule_text.specs.declared.item.CutSide.{CutSide};
-ghost use Rattle.rule_text.specs.declared.item.Item.{Item};
 ghost use Rattle.rule_text.specs.declared.item.RawDemand.{RawDemand};
-ghost use Rattle.rule_text.specs.declared.item.RawSort.{RawSort};
 ghost use Rattle.rule_text.specs.declared.item.RawTree.{RawTree};
-ghost use Rattle.rule_text.specs.declared.item.RawVar.{RawVar};
 
 use crate::error::LoadError;
 use crate::item::{
@@ -53,8 +51,7 @@ use std::alloc::Global;
 /// ([`crate::items_are_unique`]), or `Unread` where they write none. The only other answer is that there was no memory.
 pub fn items(alloc: Global, kind: FileKind, forms: &[Form]) -> Result<ItemList, LoadError>
     ensures ok { IfOk result (WritesItems kind forms.now) }
-    ensures unread { IsErrOf result LoadError.Unread →
-        (items : List Item) → ¬ WritesItems kind forms.now items }
+    ensures unread { UnreadOnlyIfNone result (WritesItems kind forms.now) }
 {
     let mut items = Items::new(alloc);
     for form in forms {
@@ -65,8 +62,7 @@ pub fn items(alloc: Global, kind: FileKind, forms: &[Form]) -> Result<ItemList, 
 
 fn item(alloc: Global, kind: FileKind, form: &Form) -> Result<Item, LoadError>
     ensures ok { IfOk result (WritesItem kind (without_spans form.now)) }
-    ensures unread { IsErrOf result LoadError.Unread →
-        (i : Item) → ¬ WritesItem kind (without_spans form.now) i }
+    ensures unread { UnreadOnlyIfNone result (WritesItem kind (without_spans form.now)) }
 {
     match kind {
         FileKind::Semantics => semantics_item(alloc, form),
@@ -77,8 +73,7 @@ fn item(alloc: Global, kind: FileKind, form: &Form) -> Result<Item, LoadError>
 
 fn semantics_item(alloc: Global, form: &Form) -> Result<Item, LoadError>
     ensures ok { IfOk result (WritesItem FileKind.Semantics (without_spans form.now)) }
-    ensures unread { IsErrOf result LoadError.Unread →
-        (i : Item) → ¬ WritesItem FileKind.Semantics (without_spans form.now) i }
+    ensures unread { UnreadOnlyIfNone result (WritesItem FileKind.Semantics (without_spans form.now)) }
 {
     let Some((front, parts)) = split(form) else {
         return Err(LoadError::Unread);
@@ -100,8 +95,7 @@ fn semantics_item(alloc: Global, form: &Form) -> Result<Item, LoadError>
 
 fn points_item(alloc: Global, form: &Form) -> Result<Item, LoadError>
     ensures ok { IfOk result (WritesItem FileKind.Points (without_spans form.now)) }
-    ensures unread { IsErrOf result LoadError.Unread →
-        (i : Item) → ¬ WritesItem FileKind.Points (without_spans form.now) i }
+    ensures unread { UnreadOnlyIfNone result (WritesItem FileKind.Points (without_spans form.now)) }
 {
     let Some((front, parts)) = split(form) else {
         return Err(LoadError::Unread);
@@ -133,9 +127,7 @@ fn split(form: &Form) -> Option<(&Form, &[Form])>
 
 fn sort_item(alloc: Global, parts: &[Form]) -> Result<Item, LoadError>
     ensures ok { IfOk result (WritesParts FileKind.Semantics (codes "sort") (map without_spans parts.now)) }
-    ensures unread { IsErrOf result LoadError.Unread →
-        (i : Item) →
-        ¬ WritesParts FileKind.Semantics (codes "sort") (map without_spans parts.now) i }
+    ensures unread { UnreadOnlyIfNone result (WritesParts FileKind.Semantics (codes "sort") (map without_spans parts.now)) }
 {
     match parts {
         [name] => Ok(Item::Sort(word(alloc, name)?)),
@@ -145,9 +137,7 @@ fn sort_item(alloc: Global, parts: &[Form]) -> Result<Item, LoadError>
 
 fn con_item(alloc: Global, parts: &[Form]) -> Result<Item, LoadError>
     ensures ok { IfOk result (WritesParts FileKind.Semantics (codes "con") (map without_spans parts.now)) }
-    ensures unread { IsErrOf result LoadError.Unread →
-        (i : Item) →
-        ¬ WritesParts FileKind.Semantics (codes "con") (map without_spans parts.now) i }
+    ensures unread { UnreadOnlyIfNone result (WritesParts FileKind.Semantics (codes "con") (map without_spans parts.now)) }
 {
     let [name, args, sort] = parts else {
         return Err(LoadError::Unread);
@@ -160,9 +150,7 @@ fn con_item(alloc: Global, parts: &[Form]) -> Result<Item, LoadError>
 
 fn config_item(alloc: Global, parts: &[Form]) -> Result<Item, LoadError>
     ensures ok { IfOk result (WritesParts FileKind.Semantics (codes "config") (map without_spans parts.now)) }
-    ensures unread { IsErrOf result LoadError.Unread →
-        (i : Item) →
-        ¬ WritesParts FileKind.Semantics (codes "config") (map without_spans parts.now) i }
+    ensures unread { UnreadOnlyIfNone result (WritesParts FileKind.Semantics (codes "config") (map without_spans parts.now)) }
 {
     match parts {
         [name] => Ok(Item::Config(word(alloc, name)?)),
@@ -172,9 +160,7 @@ fn config_item(alloc: Global, parts: &[Form]) -> Result<Item, LoadError>
 
 fn rule_item(alloc: Global, parts: &[Form]) -> Result<Item, LoadError>
     ensures ok { IfOk result (WritesParts FileKind.Semantics (codes "rule") (map without_spans parts.now)) }
-    ensures unread { IsErrOf result LoadError.Unread →
-        (i : Item) →
-        ¬ WritesParts FileKind.Semantics (codes "rule") (map without_spans parts.now) i }
+    ensures unread { UnreadOnlyIfNone result (WritesParts FileKind.Semantics (codes "rule") (map without_spans parts.now)) }
 {
     let [name, variables, head, rest @ ..] = parts else {
         return Err(LoadError::Unread);
@@ -212,8 +198,7 @@ fn outcome(alloc: Global, forms: &[Form]) -> Result<(RawDemands, RawTree), LoadE
 
 fn cut_item(alloc: Global, parts: &[Form]) -> Result<Item, LoadError>
     ensures ok { IfOk result (WritesParts FileKind.Points (codes "cut") (map without_spans parts.now)) }
-    ensures unread { IsErrOf result LoadError.Unread →
-        (i : Item) → ¬ WritesParts FileKind.Points (codes "cut") (map without_spans parts.now) i }
+    ensures unread { UnreadOnlyIfNone result (WritesParts FileKind.Points (codes "cut") (map without_spans parts.now)) }
 {
     let [side, name, variables, pattern] = parts else {
         return Err(LoadError::Unread);
@@ -248,9 +233,7 @@ fn cut_side(form: &Form) -> Option<CutSide>
 
 fn point_item(alloc: Global, parts: &[Form]) -> Result<Item, LoadError>
     ensures ok { IfOk result (WritesParts FileKind.Points (codes "point") (map without_spans parts.now)) }
-    ensures unread { IsErrOf result LoadError.Unread →
-        (i : Item) →
-        ¬ WritesParts FileKind.Points (codes "point") (map without_spans parts.now) i }
+    ensures unread { UnreadOnlyIfNone result (WritesParts FileKind.Points (codes "point") (map without_spans parts.now)) }
 {
     let [name, variables, left, right] = parts else {
         return Err(LoadError::Unread);
@@ -279,8 +262,7 @@ fn is_no_vars(form: &Form) -> bool
 
 fn sort(alloc: Global, form: &Form) -> Result<RawSort, LoadError>
     ensures ok { IfOk result (λ sort. without_spans form.now ≡ written_sort sort) }
-    ensures unread { IsErrOf result LoadError.Unread →
-        (sort : RawSort) → without_spans form.now ≢ written_sort sort }
+    ensures unread { UnreadOnlyIfNone result (λ sort. without_spans form.now ≡ written_sort sort) }
 {
     let Some(forms) = list(form) else {
         return Ok(RawSort::Named(word(alloc, form)?));
@@ -309,8 +291,7 @@ fn width(forms: &[Form]) -> Option<u64>
 fn sorts(alloc: Global, form: &Form) -> Result<RawSorts, LoadError>
     ensures ok { IfOk result
         (λ sorts. without_spans form.now ≡ plain_list (map written_sort sorts)) }
-    ensures unread { IsErrOf result LoadError.Unread →
-        (sorts : List RawSort) → without_spans form.now ≢ plain_list (map written_sort sorts) }
+    ensures unread { UnreadOnlyIfNone result (λ sorts. without_spans form.now ≡ plain_list (map written_sort sorts)) }
 {
     let Some(forms) = list(form) else {
         return Err(LoadError::Unread);
@@ -325,8 +306,7 @@ fn sorts(alloc: Global, form: &Form) -> Result<RawSorts, LoadError>
 // The variables of a list that begins with `vars`.
 fn vars(alloc: Global, form: &Form) -> Result<RawVars, LoadError>
     ensures ok { IfOk result (λ vars. without_spans form.now ≡ written_vars vars) }
-    ensures unread { IsErrOf result LoadError.Unread →
-        (vars : List RawVar) → without_spans form.now ≢ written_vars vars }
+    ensures unread { UnreadOnlyIfNone result (λ vars. without_spans form.now ≡ written_vars vars) }
 {
     let Some((front, pairs)) = split(form) else {
         return Err(LoadError::Unread);
@@ -343,8 +323,7 @@ fn vars(alloc: Global, form: &Form) -> Result<RawVars, LoadError>
 
 fn var(alloc: Global, form: &Form) -> Result<RawVar, LoadError>
     ensures ok { IfOk result (λ var. without_spans form.now ≡ written_var var) }
-    ensures unread { IsErrOf result LoadError.Unread →
-        (var : RawVar) → without_spans form.now ≢ written_var var }
+    ensures unread { UnreadOnlyIfNone result (λ var. without_spans form.now ≡ written_var var) }
 {
     let Some(forms) = list(form) else {
         return Err(LoadError::Unread);
@@ -360,8 +339,7 @@ fn var(alloc: Global, form: &Form) -> Result<RawVar, LoadError>
 
 fn demands(alloc: Global, forms: &[Form]) -> Result<RawDemands, LoadError>
     ensures ok { IfOk result (WritesDemands (map without_spans forms.now)) }
-    ensures unread { IsErrOf result LoadError.Unread →
-        (demands : List RawDemand) → ¬ WritesDemands (map without_spans forms.now) demands }
+    ensures unread { UnreadOnlyIfNone result (WritesDemands (map without_spans forms.now)) }
 {
     let mut demands = Items::new(alloc);
     for form in forms {
@@ -372,8 +350,7 @@ fn demands(alloc: Global, forms: &[Form]) -> Result<RawDemands, LoadError>
 
 fn demand(alloc: Global, form: &Form) -> Result<RawDemand, LoadError>
     ensures ok { IfOk result (WritesDemand (without_spans form.now)) }
-    ensures unread { IsErrOf result LoadError.Unread →
-        (demand : RawDemand) → ¬ WritesDemand (without_spans form.now) demand }
+    ensures unread { UnreadOnlyIfNone result (WritesDemand (without_spans form.now)) }
 {
     let Some(forms) = list(form) else {
         return Err(LoadError::Unread);

@@ -1,7 +1,7 @@
 // From the bytes of a text to its items.
-ghost use Rattle.std.specs.Prelude.{List, IfOk, IsErrOf};
+ghost use Rattle.std.specs.Prelude.{IfOk};
 ghost use Rattle.rule_text.specs.Text.{IsItemsText};
-ghost use Rattle.rule_text.specs.declared.item.Item.{Item};
+ghost use Rattle.rule_text.specs.Unread.{UnreadOnlyIfNone};
 
 use crate::error::LoadError;
 use crate::item::{FileKind, ItemList};
@@ -14,8 +14,7 @@ use std::alloc::Global;
 /// Want of memory is the only other answer.
 pub fn read_items(alloc: Global, kind: FileKind, bytes: &[u8]) -> Result<ItemList, LoadError>
     ensures ok { IfOk result (IsItemsText kind bytes.now) }
-    ensures unread { IsErrOf result LoadError.Unread →
-        (items : List Item) → ¬ IsItemsText kind bytes.now items }
+    ensures unread { UnreadOnlyIfNone result (IsItemsText kind bytes.now) }
 {
     match read(alloc, bytes) {
         Ok(forms) => items(alloc, kind, forms.as_slice()),

@@ -11,7 +11,6 @@ ghost use Rattle.std.specs.Prelude.{
   length,
   IsTrue,
   IsNone,
-  IsErrOf,
   IfOk,
   IfSome,
 };
@@ -21,9 +20,9 @@ ghost use Rattle.sexp_text.specs.declared.form.Form.{Form};
 ghost use Rattle.rule_text.specs.Lawful.{is_lawful_tree, is_operator};
 ghost use Rattle.sort_term.specs.Names.{is_reserved_word};
 ghost use Rattle.rule_text.specs.Plain.{plain_word, plain_number, plain_list};
+ghost use Rattle.rule_text.specs.Unread.{UnreadOnlyIfNone};
 ghost use Rattle.rule_text.specs.Writes.{WritesTree};
 ghost use Rattle.rule_text.specs.Written.{written_tree};
-ghost use Rattle.rule_text.specs.declared.item.RawTree.{RawTree};
 
 use crate::error::LoadError;
 use crate::item::{RawTree, RawTrees};
@@ -48,8 +47,7 @@ fn is_reserved(name: &Name) -> bool
 /// A copy of a word.
 pub fn word(alloc: Global, form: &Form) -> Result<Name, LoadError>
     ensures ok { IfOk result (λ name. without_spans form.now ≡ plain_word name) }
-    ensures unread { IsErrOf result LoadError.Unread →
-        (name : List ℕ) → without_spans form.now ≢ plain_word name }
+    ensures unread { UnreadOnlyIfNone result (λ name. without_spans form.now ≡ plain_word name) }
 {
     match &form.kind {
         FormKind::Word(name) => Ok(name.copy(alloc)?),
@@ -136,8 +134,7 @@ fn applied(place: Place, name: Name, args: RawTrees) -> Option<RawTree>
 #[cycle(tree)]
 pub fn tree(alloc: Global, place: Place, form: &Form) -> Result<RawTree, LoadError>
     ensures ok { IfOk result (WritesTree place (without_spans form.now)) }
-    ensures unread { IsErrOf result LoadError.Unread →
-        (tree : RawTree) → ¬ WritesTree place (without_spans form.now) tree }
+    ensures unread { UnreadOnlyIfNone result (WritesTree place (without_spans form.now)) }
 {
     match &form.kind {
         FormKind::Word(name) => {
@@ -155,8 +152,7 @@ pub fn tree(alloc: Global, place: Place, form: &Form) -> Result<RawTree, LoadErr
 #[cycle(tree)]
 fn list_tree(alloc: Global, place: Place, forms: &[Form]) -> Result<RawTree, LoadError>
     ensures ok { IfOk result (WritesTree place (plain_list (map without_spans forms.now))) }
-    ensures unread { IsErrOf result LoadError.Unread →
-        (tree : RawTree) → ¬ WritesTree place (plain_list (map without_spans forms.now)) tree }
+    ensures unread { UnreadOnlyIfNone result (WritesTree place (plain_list (map without_spans forms.now))) }
 {
     let [front, rest @ ..] = forms else {
         return Err(LoadError::Unread);

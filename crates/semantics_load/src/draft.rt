@@ -5,13 +5,11 @@ ghost use Rattle.rule_text.specs.declared.error.LoadError.{LoadError};
 ghost use Rattle.rule_text.specs.declared.item.Item.{Item};
 ghost use Rattle.rule_text.specs.Unread.{UnreadOnlyIfNone};
 ghost use Rattle.sort_term.specs.declared.semantics.Con.{Con};
-ghost use Rattle.sort_term.specs.declared.rule.Demand.{Demand};
 ghost use Rattle.sort_term.specs.declared.rule.Rule.{Rule};
 ghost use Rattle.sort_term.specs.declared.term.Sort.{Sort};
-ghost use Rattle.sort_term.specs.System.{System};
 ghost use Rattle.name_resolution.specs.Names.{IsNew};
 ghost use Rattle.name_resolution.specs.Known.{vocabulary_of, sort_of};
-ghost use Rattle.semantics_load.specs.Declares.{Declared, Declares, IsConText, raw_rule, IsRuleText, IsDemandText, known_in, nothing, with_sort, with_con, with_config, with_rule};
+ghost use Rattle.semantics_load.specs.Declares.{Declared, Declares, IsConText, raw_rule, IsRuleText, IsDemandText, known_in, nothing, with_con, with_rule};
 ghost use Rattle.semantics_load.specs.Text.{Makes};
 
 use name_resolution::{Known, NameTable, Variables, declared_variables, expression, pattern};

@@ -1,14 +1,10 @@
 //! The semantics that a text writes.
 #![tactic(auto)]
 
-ghost use Rattle.std.specs.Prelude.{IfOk, IsErrOf};
-ghost use Rattle.rule_text.specs.declared.error.LoadError.{LoadError};
-ghost use Rattle.rule_text.specs.declared.item.Item.{Item};
+ghost use Rattle.std.specs.Prelude.{IfOk};
 ghost use Rattle.rule_text.specs.Turns.{InTurn};
 ghost use Rattle.rule_text.specs.Unread.{UnreadOnlyIfNone};
-ghost use Rattle.sort_term.specs.System.{System};
-ghost use Rattle.sort_term.specs.Rules.{IsSemantics};
-ghost use Rattle.semantics_load.specs.Declares.{Declared, nothing, Declares};
+ghost use Rattle.semantics_load.specs.Declares.{nothing, Declares};
 ghost use Rattle.semantics_load.specs.Text.{AreItemsOf, IsSemanticsText};
 
 mod draft;

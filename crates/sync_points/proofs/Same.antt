@@ -17,7 +17,7 @@ use Rattle.sort_term.specs.System.{System}
 use Rattle.name_resolution.specs.Known.{Vocabulary}
 use Rattle.name_resolution.specs.Written.{IsPatternText, AreVariablesText}
 use Rattle.name_resolution.proofs.Unique.{one_pattern, one_expression, one_list_of_variables}
-use Rattle.sync_points.specs.Adds.{Vocabularies, nothing, known_of_both, with_left, with_right, with_point, IsCutText, IsPointText, Adds}
+use Rattle.sync_points.specs.Adds.{Vocabularies, nothing, known_of, with_left, with_right, with_point, IsCutText, IsPointText, Adds}
 use Rattle.sync_points.specs.Text.{AreItemsOf, IsPointsText}
 
 -- an item of a cut and a point are told by their parts
@@ -50,18 +50,17 @@ pub one_point : (known : Vocabularies) (name : List ℕ) (l r : RawTree) (p q : 
 one_point known name l r p q a b =
     same_point p q (a.named ∙ sym b.named) (a.no_vars ∙ sym b.no_vars) (one_expression known.left [] l p.left q.left a.left_term b.left_term) (one_expression known.right [] r p.right q.right a.right_term b.right_term) (a.no_whens ∙ sym b.no_whens)
 
-pub one_added : (known : Vocabularies) (d : Points) (i : Item) (e f : Points) → Adds known d i e → Adds known d i f → e ≡ f
-one_added known d (Cut Left name vars raw) e f a b = a.2 ∙ ap (with_left d) (one_cut known.left name vars raw a.0 b.0 a.1 b.1) ∙ sym b.2
-one_added known d (Cut Right name vars raw) e f a b = a.2 ∙ ap (with_right d) (one_cut known.right name vars raw a.0 b.0 a.1 b.1) ∙ sym b.2
-one_added known d (Point name l r) e f a b = a.2 ∙ ap (with_point d) (one_point known name l r a.0 b.0 a.1 b.1) ∙ sym b.2
-one_added known d (Sort name) e f a b = absurd a
-one_added known d (Con name args sort) e f a b = absurd a
-one_added known d (Config name) e f a b = absurd a
-one_added known d (Rule name vars head demands outcome) e f a b = absurd a
+pub one_added : (left right : Vocabulary) (d : Points) (i : Item) (e f : Points) → Adds left right d i e → Adds left right d i f → e ≡ f
+one_added left right d (Cut Left name vars raw) e f a b = a.2 ∙ ap (with_left d) (one_cut left name vars raw a.0 b.0 a.1 b.1) ∙ sym b.2
+one_added left right d (Cut Right name vars raw) e f a b = a.2 ∙ ap (with_right d) (one_cut right name vars raw a.0 b.0 a.1 b.1) ∙ sym b.2
+one_added left right d (Point name l r) e f a b = a.2 ∙ ap (with_point d) (one_point (record { left = left; right = right }) name l r a.0 b.0 a.1 b.1) ∙ sym b.2
+one_added left right d (Sort name) e f a b = absurd a
+one_added left right d (Con name args sort) e f a b = absurd a
+one_added left right d (Config name) e f a b = absurd a
+one_added left right d (Rule name vars head demands outcome) e f a b = absurd a
 
 pub one_points : (left right : System) (bytes : List ℕ) (p q : Points) → IsPointsText left right bytes p → IsPointsText left right bytes q → p ≡ q
 one_points left right bytes p q a b =
     let items = same_item_list _ bytes b.items a.items b.text a.text in
     let other = subst (λ (xs : List Item). AreItemsOf left right xs q) items b.made in
-    let known = known_of_both left right in
-    same_turns (Adds known) (one_added known) nothing p q a.items a.made.adds other.adds
+    same_turns (Adds (known_of left) (known_of right)) (one_added (known_of left) (known_of right)) nothing p q a.items a.made.adds other.adds

@@ -31,9 +31,6 @@ pub record Vocabularies : Type 0 where
 abbrev pub vocabularies_of : Known → Known → Vocabularies
 vocabularies_of left right = record { left = vocabulary_of left; right = vocabulary_of right }
 
-abbrev pub known_of_both : System → System → Vocabularies
-known_of_both left right = record { left = known_of left; right = known_of right }
-
 -- one thing more
 abbrev pub with_left : Points → Cut Left → Points
 with_left d c = record { left_cuts = d.left_cuts ++ c ∷ []; right_cuts = d.right_cuts; points = d.points }
@@ -70,8 +67,8 @@ abbrev pub AddsPoint : Points → (Point → Type 0) → Points → Type 0
 AddsPoint d IsTold e = (p : Point) × IsTold p × (e ≡ with_point d p)
 
 -- an item behind others that make d of two semantics: with it they make e
-abbrev pub Adds : Vocabularies → Points → Item → Points → Type 0
-Adds known d (item.Cut side.Left name vars raw) e = AddsLeft d (IsCutText known.left name vars raw) e
-Adds known d (item.Cut side.Right name vars raw) e = AddsRight d (IsCutText known.right name vars raw) e
-Adds known d (item.Point name left_raw right_raw) e = AddsPoint d (IsPointText known name left_raw right_raw) e
-Adds known d i e = ⊥
+abbrev pub Adds : Vocabulary → Vocabulary → Points → Item → Points → Type 0
+Adds left right d (item.Cut side.Left name vars raw) e = AddsLeft d (IsCutText left name vars raw) e
+Adds left right d (item.Cut side.Right name vars raw) e = AddsRight d (IsCutText right name vars raw) e
+Adds left right d (item.Point name left_raw right_raw) e = AddsPoint d (IsPointText (record { left = left; right = right }) name left_raw right_raw) e
+Adds left right d i e = ⊥

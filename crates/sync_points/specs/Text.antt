@@ -7,7 +7,11 @@ use Rattle.rule_text.specs.Turns.{InTurn}
 use Rattle.sort_term.specs.declared.points.Points.{Points}
 use Rattle.sort_term.specs.System.{System}
 use Rattle.sort_term.specs.Problems.{AreCuts, ArePoints}
+<<<<<<< HEAD
 use Rattle.sync_points.specs.Adds.{nothing, known_of_both, Adds}
+=======
+use Rattle.sync_points.specs.Adds.{nothing, known_of, Adds}
+>>>>>>> take-side-165601
 
 -- cuts and points that pass their checks
 pub record AreLawful (left right : System) (p : Points) : Type 0 where
@@ -17,7 +21,7 @@ pub record AreLawful (left right : System) (p : Points) : Type 0 where
 
 -- items that make lawful cuts and points, from the first one on
 pub record AreItemsOf (left right : System) (items : List Item) (p : Points) : Type 0 where
-  pub adds : InTurn (Adds (known_of_both left right)) nothing items p
+  pub adds : InTurn (Adds (known_of left) (known_of right)) nothing items p
   pub lawful : AreLawful left right p
 
 -- the text is that of items that make these cuts and points

@@ -2,11 +2,8 @@
 ghost use Rattle.std.specs.Prelude.{◌≡◌, IfOk};
 ghost use Rattle.rule_text.specs.Turns.{InTurn};
 ghost use Rattle.rule_text.specs.Unread.{UnreadOnlyIfNone};
-ghost use Rattle.sort_term.specs.declared.points.Cut.{Cut};
-ghost use Rattle.sort_term.specs.declared.points.Point.{Point};
-ghost use Rattle.sort_term.specs.declared.points.Points.{Points};
 ghost use Rattle.name_resolution.specs.Known.{vocabulary_of};
-ghost use Rattle.sync_points.specs.Adds.{nothing, known_of_both, vocabularies_of, AddsLeft, AddsRight, AddsPoint, IsCutText, IsPointText, Adds};
+ghost use Rattle.sync_points.specs.Adds.{nothing, known_of, vocabularies_of, AddsLeft, AddsRight, AddsPoint, IsCutText, IsPointText, Adds};
 
 use crate::vocabulary::Vocabulary;
 use name_resolution::{Known, Variables, declared_variables, expression, pattern};
@@ -24,8 +21,8 @@ pub fn added(
     right: &Semantics<Right>,
     items: &[Item],
 ) -> Result<Points, LoadError>
-    ensures ok { IfOk result (InTurn (Adds (known_of_both left.now right.now)) nothing items.now) }
-    ensures unread { UnreadOnlyIfNone result (InTurn (Adds (known_of_both left.now right.now)) nothing items.now) }
+    ensures ok { IfOk result (InTurn (Adds (known_of left.now) (known_of right.now)) nothing items.now) }
+    ensures unread { UnreadOnlyIfNone result (InTurn (Adds (known_of left.now) (known_of right.now)) nothing items.now) }
 {
     let left_names = Vocabulary::of(alloc, left)?;
     let right_names = Vocabulary::of(alloc, right)?;
@@ -55,8 +52,8 @@ fn with_item(
     points: Points,
     item: &Item,
 ) -> Result<Points, LoadError>
-    ensures ok { IfOk result (Adds (vocabularies_of left.now right.now) points item.now) }
-    ensures unread { UnreadOnlyIfNone result (Adds (vocabularies_of left.now right.now) points item.now) }
+    ensures ok { IfOk result (Adds (vocabulary_of left.now) (vocabulary_of right.now) points item.now) }
+    ensures unread { UnreadOnlyIfNone result (Adds (vocabulary_of left.now) (vocabulary_of right.now) points item.now) }
 {
     match item {
         Item::Cut {

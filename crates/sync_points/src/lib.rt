@@ -3,7 +3,6 @@
 
 ghost use Rattle.std.specs.Prelude.{◌↔◌, IsTrue, IfOk};
 ghost use Rattle.rule_text.specs.Unread.{UnreadOnlyIfNone};
-ghost use Rattle.sort_term.specs.declared.points.Points.{Points};
 ghost use Rattle.sync_points.specs.Text.{AreItemsOf, AreLawful, IsPointsText};
 
 mod adding;
