@@ -1,6 +1,6 @@
 // The run by the first rule that applies.
 ghost use Rattle.std.specs.Prelude.{◌↔◌, IfOk, IsTrue};
-ghost use Rattle.sort_term.specs.Fits.{IsProgram};
+ghost use Rattle.sort_term.specs.Problems.{IsProgram};
 ghost use Rattle.sort_term.specs.Step.{IsState};
 ghost use Rattle.ground_step.specs.Reach.{FirstRunFrom, IsFirstStep, IsStuckIn, end_of, run_of};
 

@@ -2,7 +2,7 @@
 ghost use Rattle.std.specs.Prelude.{◌≡◌, ◌≢◌, ◌≤◌, [], All, IfOk};
 ghost use Rattle.sort_term.specs.Step.{IsState};
 ghost use Rattle.sort_term.specs.Rules.{IsSemantics};
-ghost use Rattle.sort_term.specs.Fits.{AreCuts, IsProgram};
+ghost use Rattle.sort_term.specs.Problems.{AreCuts, IsProgram};
 ghost use Rattle.ground_step.specs.Steps.{steps_of};
 ghost use Rattle.ground_step.specs.Reach.{AddsRuns, AreRuns, EndsInCut, EndsInState, EndsOutside, HaltedFrom, LongFrom, MeetsNext, MetFrom, NoneTwice, StaysOutside, StopsIn, StopsMovedIn, run_of, runs_of, with_each};
 

@@ -2,7 +2,7 @@
 ghost use Rattle.std.specs.Prelude.{◌≡◌, ◌≢◌, ◌<◌, [], All, IfOk, MatchOption, Some, length, map, slice_get};
 ghost use Rattle.sort_term.specs.Tree.{plain_of, value};
 ghost use Rattle.sort_term.specs.Step.{IsState};
-ghost use Rattle.sort_term.specs.Fits.{IsPointOf};
+ghost use Rattle.sort_term.specs.Problems.{IsPointOf};
 ghost use Rattle.ground_step.specs.GroundBinds.{Restricts};
 ghost use Rattle.ground_step.specs.Ready.{IsEvaluable};
 ghost use Rattle.ground_step.specs.Fit.{AreOf, Determines, DeterminesAll, IsFitOf, IsValueBound, ReadsWithin, RelationIs, some_plain};
