@@ -20,7 +20,7 @@ use Rattle.unify.specs.Meets.{AreApart, AreTrue, AreUnified}
 use Rattle.unify.proofs.Filled.{filled, filled_agrees, filled_long, agreeing_fits}
 use Rattle.unify.proofs.Lists.{all_mapped}
 use Rattle.ground_step.specs.GroundBinds.{ground_binds, AgreesGround, Restricts}
-use Rattle.ground_step.specs.Ready.{IsReady}
+use Rattle.ground_step.specs.Ready.{IsEvaluable}
 use Rattle.ground_step.specs.Steps.{IsCovered}
 use Rattle.ground_step.proofs.Taken.{no_values}
 
@@ -53,7 +53,7 @@ module _ {S : Type 0} (sys : System) (item : Cut S) (s : Tree) (checked : IsCut 
     all_bound : (i : ℕ) → i < length item.vars → IsBound (ground_binds bs) i
     all_bound i l = (met.bound i).1 (only_in i item.pattern (checked.bound.each i l))
 
-    pub whens_ready : All (IsReady sys.cons bs) item.whens
+    pub whens_ready : All (IsEvaluable sys.cons bs) item.whens
     whens_ready k d l =
         let some : IsSome _ = subst IsSome (sym (checked.whens.sorted k d l).is) (search rules) in
         record { vars = item.vars; binds = met.lawful; sorted = some; known = λ i r. all_bound i (declares sys.cons item.vars (get_or item.whens k d) some i r) }

@@ -11,13 +11,13 @@ use Rattle.unify.specs.Binds.{bound_sort, AreValid, Gives}
 use Rattle.unify.proofs.Binding.{binds_valid}
 use Rattle.unify.proofs.Filled.{sort_bound}
 use Rattle.ground_step.specs.GroundBinds.{ground_binds, AgreesGround, Restricts}
-use Rattle.ground_step.specs.Ready.{IsReady}
+use Rattle.ground_step.specs.Ready.{IsEvaluable}
 
 module _ (cons : List Con) (bs : List (Option Tree)) (e : RuleExpr) where
-  pub ready_valid : IsReady cons bs e → AreValid (ground_binds bs)
+  pub ready_valid : IsEvaluable cons bs e → AreValid (ground_binds bs)
   ready_valid r = binds_valid cons r.vars (ground_binds bs) r.binds
 
-  pub ready_sorted : IsReady cons bs e → IsSome (expr_sort_where cons (bound_sort cons (ground_binds bs)) e)
+  pub ready_sorted : IsEvaluable cons bs e → IsSome (expr_sort_where cons (bound_sort cons (ground_binds bs)) e)
   ready_sorted r = subst IsSome (sym (sort_bound cons r.vars (ground_binds bs) e r.binds r.known)) r.sorted
 
   -- the expression's value is t under each valuation that agrees

@@ -3,7 +3,7 @@ use Rattle.std.proofs.Common.{arith, ◌≡◌, ◌≢◌, ◌↔◌, suc, List,
 use Rattle.std.specs.List.{Contains}
 use Rattle.std.proofs.lemmas.List.Elements.{All-nil, All-cons, All-append, All-map, All-contains, Contains-append_left, Contains-append_right, Contains-push, Contains-push_cases}
 use Rattle.std.proofs.lemmas.List.Kept.{AllPairs-cons}
-use Rattle.ground_step.specs.Reach.{NoneTwice, AreExactly, Adds}
+use Rattle.ground_step.specs.Reach.{NoneTwice, AreExactly, AddsExactly}
 use Rattle.ground_step.proofs.Lists.{contains_nil, contains_cons, contains_cases}
 
 module _ {X : Type 0} where
@@ -67,23 +67,23 @@ module _ {X : Type 0} where
       go x (inl p) = Contains-append_left xs ys x (e.complete x p)
       go x (inr q) = Contains-append_right xs ys x (f.complete x q)
 
-  pub adds_same : (P Q : X → Type 0) (xs ys : List X) → ((x : X) → P x ↔ Q x) → Adds P xs ys → Adds Q xs ys
+  pub adds_same : (P Q : X → Type 0) (xs ys : List X) → ((x : X) → P x ↔ Q x) → AddsExactly P xs ys → AddsExactly Q xs ys
   adds_same P Q xs ys h a = record { more = a.more; is = a.is; exactly = exactly_same P Q a.more h a.exactly }
 
-  pub adds_none : (P : X → Type 0) (xs : List X) → ((x : X) → ¬ P x) → Adds P xs xs
+  pub adds_none : (P : X → Type 0) (xs : List X) → ((x : X) → ¬ P x) → AddsExactly P xs xs
   adds_none P xs h = record { more = []; is = sym (append-nil xs); exactly = exactly_none P h }
 
-  pub adds_one : (P : X → Type 0) (xs : List X) (x : X) → ((y : X) → P y ↔ (y ≡ x)) → Adds P xs (xs ++ x ∷ [])
+  pub adds_one : (P : X → Type 0) (xs : List X) (x : X) → ((y : X) → P y ↔ (y ≡ x)) → AddsExactly P xs (xs ++ x ∷ [])
   adds_one P xs x h = record { more = x ∷ []; is = refl; exactly = exactly_one x P h }
 
-  pub adds_both : (P Q R : X → Type 0) (xs ys zs : List X) → ((x : X) → R x ↔ (P x ⊎ Q x)) → ((x : X) → P x → ¬ Q x) → Adds P xs ys → Adds Q ys zs → Adds R xs zs
+  pub adds_both : (P Q R : X → Type 0) (xs ys zs : List X) → ((x : X) → R x ↔ (P x ⊎ Q x)) → ((x : X) → P x → ¬ Q x) → AddsExactly P xs ys → AddsExactly Q ys zs → AddsExactly R xs zs
   adds_both P Q R xs ys zs h apart a b = record {
     more = a.more ++ b.more;
     is = b.is ∙ ap (λ l. l ++ b.more) a.is ∙ append_assoc xs a.more b.more;
     exactly = exactly_both P Q R a.more b.more h apart a.exactly b.exactly;
   }
 
-  pub exactly_adds : (P Q R : X → Type 0) (xs ys : List X) → ((x : X) → R x ↔ (P x ⊎ Q x)) → ((x : X) → P x → ¬ Q x) → AreExactly P xs → Adds Q xs ys → AreExactly R ys
+  pub exactly_adds : (P Q R : X → Type 0) (xs ys : List X) → ((x : X) → R x ↔ (P x ⊎ Q x)) → ((x : X) → P x → ¬ Q x) → AreExactly P xs → AddsExactly Q xs ys → AreExactly R ys
   exactly_adds P Q R xs ys h apart e a = subst (AreExactly R) (sym a.is) (exactly_both P Q R xs a.more h apart e a.exactly)
 
   -- what has P is in the list, and what is in the list has P

@@ -8,7 +8,7 @@ use Rattle.sort_term.specs.Step.{Tables, StepsBy}
 use Rattle.ground_step.specs.declared.run.Run.{Run}
 use Rattle.ground_step.specs.declared.run.RunStep.{RunStep}
 use Rattle.ground_step.specs.Steps.{AreSteps, step_of, steps_of}
-use Rattle.ground_step.specs.Reach.{StartedRun, NoneTwice, end_of, run_of, runs_of, with_each, AreExactly, Adds, EndsIn, OneStepMore, Stops, StopsMoved}
+use Rattle.ground_step.specs.Reach.{StartedRun, NoneTwice, end_of, run_of, runs_of, with_each, AreExactly, AddsExactly, EndsIn, OneStepMore, Stops, StopsMoved}
 use Rattle.ground_step.proofs.Exactly.{exactly_same, exactly_adds, adds_same, adds_one, adds_both, contains_more, new_here}
 use Rattle.ground_step.proofs.Ahead.{extends_more, stops_more, with_each_extends, with_each_apart, stops_is, stops_none, extends_none}
 
@@ -45,7 +45,7 @@ new_at runs i run l e once =
 
 module _ (xs : List StartedRun) (p : StartedRun) (Q : Tree → Type 0) (a b : List StartedRun) where
   -- a run more that doesn't end in Q, and one that does
-  pub ends_keep : ¬ Q (end_of p) → Adds (EndsIn xs Q) a b → Adds (EndsIn (xs ++ p ∷ []) Q) a b
+  pub ends_keep : ¬ Q (end_of p) → AddsExactly (EndsIn xs Q) a b → AddsExactly (EndsIn (xs ++ p ∷ []) Q) a b
   ends_keep miss h = adds_same (EndsIn xs Q) (EndsIn (xs ++ p ∷ []) Q) a b (λ q. (to q, from q)) h
     where
       to : (q : StartedRun) → EndsIn xs Q q → EndsIn (xs ++ p ∷ []) Q q
@@ -58,7 +58,7 @@ module _ (xs : List StartedRun) (p : StartedRun) (Q : Tree → Type 0) (a b : Li
           go (inl c) = (c, e.1)
           go (inr is) = absurd (miss (subst (λ r. Q (end_of r)) is e.1))
 
-  pub ends_add : ¬ Contains xs p → Q (end_of p) → Adds (EndsIn xs Q) a b → Adds (EndsIn (xs ++ p ∷ []) Q) a (b ++ p ∷ [])
+  pub ends_add : ¬ Contains xs p → Q (end_of p) → AddsExactly (EndsIn xs Q) a b → AddsExactly (EndsIn (xs ++ p ∷ []) Q) a (b ++ p ∷ [])
   ends_add new hit h = adds_both (EndsIn xs Q) (λ q. q ≡ p) (EndsIn (xs ++ p ∷ []) Q) a b (b ++ p ∷ []) (λ q. (to q, from q)) (λ q e is. new (subst (Contains xs) is e.0)) h (adds_one (λ q. q ≡ p) b p (λ q. (λ e. e, λ e. e)))
     where
       to : (q : StartedRun) → EndsIn (xs ++ p ∷ []) Q q → EndsIn xs Q q ⊎ (q ≡ p)
@@ -108,10 +108,10 @@ module _ (sys : System) (tables : Tables) (p : StartedRun) (steps : List (ℕ ×
     apart : ¬ Contains xs p → (q : StartedRun) → OneStepMore By xs Q q → ¬ EndsIn (with_each p steps) Q q
     apart new q = with_each_apart sys tables p steps all xs new Q Q q
 
-    pub open_moved : ¬ Contains xs p → (b c : List StartedRun) → AreExactly (OneStepMore By xs Q) b → Adds (EndsIn (with_each p steps) Q) b c → AreExactly (OneStepMore By (xs ++ p ∷ []) Q) c
+    pub open_moved : ¬ Contains xs p → (b c : List StartedRun) → AreExactly (OneStepMore By xs Q) b → AddsExactly (EndsIn (with_each p steps) Q) b c → AreExactly (OneStepMore By (xs ++ p ∷ []) Q) c
     open_moved new b c e h = exactly_adds (OneStepMore By xs Q) (EndsIn (with_each p steps) Q) (OneStepMore By (xs ++ p ∷ []) Q) b c moved_more (apart new) e h
 
-    pub met_moved : ¬ Contains xs p → (a b c : List StartedRun) → Adds (OneStepMore By xs Q) a b → Adds (EndsIn (with_each p steps) Q) b c → Adds (OneStepMore By (xs ++ p ∷ []) Q) a c
+    pub met_moved : ¬ Contains xs p → (a b c : List StartedRun) → AddsExactly (OneStepMore By xs Q) a b → AddsExactly (EndsIn (with_each p steps) Q) b c → AddsExactly (OneStepMore By (xs ++ p ∷ []) Q) a c
     met_moved new a b c e h = adds_both (OneStepMore By xs Q) (EndsIn (with_each p steps) Q) (OneStepMore By (xs ++ p ∷ []) Q) a b c moved_more (apart new) e h
 
     -- a run without a step gives none
@@ -122,7 +122,7 @@ module _ (sys : System) (tables : Tables) (p : StartedRun) (steps : List (ℕ ×
     pub open_stuck : (b : List StartedRun) → steps ≡ [] → AreExactly (OneStepMore By xs Q) b → AreExactly (OneStepMore By (xs ++ p ∷ []) Q) b
     open_stuck b none e = exactly_same (OneStepMore By xs Q) (OneStepMore By (xs ++ p ∷ []) Q) b (stuck_same none) e
 
-    pub met_stuck : (a b : List StartedRun) → steps ≡ [] → Adds (OneStepMore By xs Q) a b → Adds (OneStepMore By (xs ++ p ∷ []) Q) a b
+    pub met_stuck : (a b : List StartedRun) → steps ≡ [] → AddsExactly (OneStepMore By xs Q) a b → AddsExactly (OneStepMore By (xs ++ p ∷ []) Q) a b
     met_stuck a b none h = adds_same (OneStepMore By xs Q) (OneStepMore By (xs ++ p ∷ []) Q) a b (stuck_same none) h
 
   -- a run with a step doesn't stop
@@ -130,10 +130,10 @@ module _ (sys : System) (tables : Tables) (p : StartedRun) (steps : List (ℕ ×
   goes some q =
       turned (Stops By (xs ++ p ∷ []) q) (Stops By xs q) (both_ways (Stops By (xs ++ p ∷ []) q) (Stops By xs q ⊎ Stops By (p ∷ []) q) (Stops By xs q) (stops_more By (λ t. Unit {0}) xs p q) (left_alone (Stops By xs q) (Stops By (p ∷ []) q) (stops_none sys tables p steps all some q)))
 
-  pub stops_moved : (a b : List StartedRun) → steps ≢ [] → Adds (Stops By xs) a b → Adds (Stops By (xs ++ p ∷ [])) a b
+  pub stops_moved : (a b : List StartedRun) → steps ≢ [] → AddsExactly (Stops By xs) a b → AddsExactly (Stops By (xs ++ p ∷ [])) a b
   stops_moved a b some h = adds_same (Stops By xs) (Stops By (xs ++ p ∷ [])) a b (goes some) h
 
-  pub halted_moved : (a b : List StartedRun) → steps ≢ [] → Adds (StopsMoved By xs) a b → Adds (StopsMoved By (xs ++ p ∷ [])) a b
+  pub halted_moved : (a b : List StartedRun) → steps ≢ [] → AddsExactly (StopsMoved By xs) a b → AddsExactly (StopsMoved By (xs ++ p ∷ [])) a b
   halted_moved a b some h = adds_same (StopsMoved By xs) (StopsMoved By (xs ++ p ∷ [])) a b (λ q. (λ x. ((goes some q).0 x.0, x.1), λ x. ((goes some q).1 x.0, x.1))) h
 
   -- a run without a step does
@@ -151,10 +151,10 @@ module _ (sys : System) (tables : Tables) (p : StartedRun) (steps : List (ℕ ×
       from (inl y) = (stops_more By (λ t. Unit {0}) xs p q).1 (inl y)
       from (inr e) = (stops_more By (λ t. Unit {0}) xs p q).1 (inr ((stops_is sys tables p steps all none q).1 e))
 
-  pub stops_stuck : ¬ Contains xs p → (a b : List StartedRun) → steps ≡ [] → Adds (Stops By xs) a b → Adds (Stops By (xs ++ p ∷ [])) a (b ++ p ∷ [])
+  pub stops_stuck : ¬ Contains xs p → (a b : List StartedRun) → steps ≡ [] → AddsExactly (Stops By xs) a b → AddsExactly (Stops By (xs ++ p ∷ [])) a (b ++ p ∷ [])
   stops_stuck new a b none h = adds_both (Stops By xs) (λ q. q ≡ p) (Stops By (xs ++ p ∷ [])) a b (b ++ p ∷ []) (rests none) (λ q x is. new (subst (Contains xs) is x.there)) h (adds_one (λ q. q ≡ p) b p (λ q. (λ e. e, λ e. e)))
 
-  pub halted_stuck : ¬ Contains xs p → (a b c : List StartedRun) → steps ≡ [] → Adds (StopsMoved By xs) a b → Adds (λ q. (q ≡ p) × (q.1 ≢ [])) b c → Adds (StopsMoved By (xs ++ p ∷ [])) a c
+  pub halted_stuck : ¬ Contains xs p → (a b c : List StartedRun) → steps ≡ [] → AddsExactly (StopsMoved By xs) a b → AddsExactly (λ q. (q ≡ p) × (q.1 ≢ [])) b c → AddsExactly (StopsMoved By (xs ++ p ∷ [])) a c
   halted_stuck new a b c none h k = adds_both (StopsMoved By xs) (λ q. (q ≡ p) × (q.1 ≢ [])) (StopsMoved By (xs ++ p ∷ [])) a b c (λ q. (to q, from q)) (λ q x is. new (subst (Contains xs) is.0 x.0.there)) h k
     where
       to : (q : StartedRun) → StopsMoved By (xs ++ p ∷ []) q → StopsMoved By xs q ⊎ ((q ≡ p) × (q.1 ≢ []))

@@ -35,7 +35,7 @@ use Rattle.sort_term.proofs.Equations.{expr_sort-Var, expr_sort-Lit, expr_sort-O
 use Rattle.sort_term.proofs.GroundTerms.{ground_sort}
 use Rattle.sort_term.proofs.Induction.{expr_ind, term_ind}
 use Rattle.ground_step.specs.GroundBinds.{ground_binds, AgreesGround, Restricts}
-use Rattle.ground_step.specs.Ready.{IsKnown, IsReady}
+use Rattle.ground_step.specs.Ready.{IsKnown, IsEvaluable}
 use Rattle.ground_step.specs.Fit.{ReadsWithin, Determines, IsValueBound, some_plain, plain_trees, IsOnlyFit, RelationIs}
 use Rattle.ground_step.proofs.Bound.{tree_there, agrees_none, agrees_at, agrees_from, agrees_tail}
 use Rattle.sort_term.proofs.Parts.{con_parts}
@@ -96,7 +96,7 @@ agrees_only (x ∷ values) (t ∷ v) l a =
     cc
 
 -- an expression over no variables is ready
-pub ready_alone : (cons : List Con) (vars : List Var) (e : RuleExpr) (s : Sort) → expr_sort cons vars e ≡ Some s → vars ≡ [] → IsReady cons [] e
+pub ready_alone : (cons : List Con) (vars : List Var) (e : RuleExpr) (s : Sort) → expr_sort cons vars e ≡ Some s → vars ≡ [] → IsEvaluable cons [] e
 ready_alone cons vars e s h none =
     let some : IsSome (expr_sort cons vars e) = subst IsSome (sym h) (search rules) in
     record {
@@ -197,7 +197,7 @@ module _ (q : Problem) (p : Point) (a b : Tree) (checked : IsPointOf q.left q.ri
             ap (seen_sort cons) u.2 ∙ ground_sort cons u.0 ∙ ap (tree_sort cons) is ∙ k.sorted;
       }
 
-      ready : (cons : List Con) (e : RuleExpr) → IsSome (expr_sort cons p.vars e) → IsReady cons new e
+      ready : (cons : List Con) (e : RuleExpr) → IsSome (expr_sort cons p.vars e) → IsEvaluable cons new e
       ready cons e h = record {
         vars = p.vars;
         binds = all_known cons;
@@ -205,13 +205,13 @@ module _ (q : Problem) (p : Point) (a b : Tree) (checked : IsPointOf q.left q.ri
         known = λ i x. let k = known cons i (declares cons p.vars e h i x) in subst IsSome (sym (bound_seen ground_seen new i k.tree k.there)) refl;
       }
 
-      pub left_ready : IsReady q.left.cons new p.left
+      pub left_ready : IsEvaluable q.left.cons new p.left
       left_ready = ready q.left.cons p.left left_sorted
 
-      pub right_ready : IsReady q.right.cons new p.right
+      pub right_ready : IsEvaluable q.right.cons new p.right
       right_ready = ready q.right.cons p.right right_sorted
 
-      pub whens_ready : All (IsReady q.left.cons new) p.whens
+      pub whens_ready : All (IsEvaluable q.left.cons new) p.whens
       whens_ready k d m =
           let is = sort_stays q.left.cons p.vars (get_or p.whens k d) (Plain BoolSort) (checked.whens.sorted k d m).is in
           ready q.left.cons (get_or p.whens k d) (subst IsSome (sym is) (search rules))
@@ -257,10 +257,10 @@ relation_some q n p a b values there f = record {
 }
 
 -- none of the first points relates the pair
-pub record NoneBefore (q : Problem) (a b : Tree) (n : ℕ) : Type 0 where
+pub record NoneRelatesBefore (q : Problem) (a b : Tree) (n : ℕ) : Type 0 where
   pub none : (j : ℕ) (p : Point) (v : Trees) → j < n → IsPoint q j p → ¬ Relates q p v a b
 
-pub none_more : (q : Problem) (a b : Tree) (n : ℕ) → NoneBefore q a b n → RelationIs q n a b None → NoneBefore q a b (n + 1)
+pub none_more : (q : Problem) (a b : Tree) (n : ℕ) → NoneRelatesBefore q a b n → RelationIs q n a b None → NoneRelatesBefore q a b (n + 1)
 none_more q a b n before is = record { none = λ j p v l there x. go j p v l there x (cases_lt j n) }
   where
     go : (j : ℕ) (p : Point) (v : Trees) → j < n + 1 → IsPoint q j p → Relates q p v a b → (j < n) ⊎ (n ≤ j) → ⊥
@@ -273,7 +273,7 @@ none_more q a b n before is = record { none = λ j p v l there x. go j p v l the
         let none : None ≡ Some s.0 = s.1 in
         cc
 
-pub none_at_all : (q : Problem) (a b : Tree) (n : ℕ) → length q.points.points ≤ n → NoneBefore q a b n → ¬ Related q a b
+pub none_at_all : (q : Problem) (a b : Tree) (n : ℕ) → length q.points.points ≤ n → NoneRelatesBefore q a b n → ¬ Related q a b
 none_at_all q a b n l before x = before.none x.place x.point x.valuation (let m = slice_get_within q.points.points x.place x.point x.there in omega arith) x.there x.relates
 
 -- the value that a variable is bound to

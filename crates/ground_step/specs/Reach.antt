@@ -61,14 +61,14 @@ abbrev pub FirstRunFrom : System → Tables → Tree → ℕ → StartedRun → 
 FirstRunFrom sys tables s n = From s (IsFirstRun (StepsBy sys tables) n s)
 
 -- what is new in a list is exactly what has P, each once, behind what was there
-pub record Adds {X : Type 0} (P : X → Type 0) (old new : List X) : Type 0 where
+pub record AddsExactly {X : Type 0} (P : X → Type 0) (old new : List X) : Type 0 where
   pub more : List X
   pub is : new ≡ old ++ more
   pub exactly : AreExactly P more
 
 -- the same of runs
 abbrev pub AddsRuns : {S : Type 0} → (StartedRun → Type 0) → List (Run S) → List (Run S) → Type 0
-AddsRuns P old new = Adds P (runs_of old) (runs_of new)
+AddsRuns P old new = AddsExactly P (runs_of old) (runs_of new)
 
 -- p with each of these steps behind it
 abbrev pub with_each : StartedRun → List (ℕ × Tree) → List StartedRun

@@ -16,7 +16,7 @@ pub record IsKnown (cons : List Con) (vars : List Var) (bound : List (Option Tre
   pub sorted : tree_sort cons tree ≡ var_sort vars i
 
 -- for some variables, each of which has a tree of its sort where it is bound, the expression is well sorted and reads only bound ones
-pub record IsReady (cons : List Con) (bound : List (Option Tree)) (e : RuleExpr) : Type 0 where
+pub record IsEvaluable (cons : List Con) (bound : List (Option Tree)) (e : RuleExpr) : Type 0 where
   pub vars : List Var
   pub binds : AreBinds cons vars (ground_binds bound)
   pub sorted : IsSome (expr_sort cons vars e)

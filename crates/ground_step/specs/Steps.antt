@@ -31,11 +31,11 @@ pub record StepIs (sys : System) (tables : Tables) (n : ℕ) (s : Tree) (o : Opt
   pub there : (t : Tree) → o ≡ Some t → StepsBy sys tables n s t
 
 -- a branch over values as nodes whose condition is true, and the place of one
-abbrev pub IsTaken : {S : Type 0} → Branch S Value → Type 0
-IsTaken b = b.condition ≡ One (Flag true)
+abbrev pub IsTrueBranch : {S : Type 0} → Branch S Value → Type 0
+IsTrueBranch b = b.condition ≡ One (Flag true)
 
-abbrev pub IsTakenAt : {S : Type 0} → List (Branch S Value) → ℕ → Type 0
-IsTakenAt {S} branches i = (b : Branch S Value) × (slice_get branches i ≡ Some b) × IsTaken b
+abbrev pub IsTrueBranchAt : {S : Type 0} → List (Branch S Value) → ℕ → Type 0
+IsTrueBranchAt {S} branches i = (b : Branch S Value) × (slice_get branches i ≡ Some b) × IsTrueBranch b
 
 -- all steps from s, in the order of the rules
 pub record AreSteps (sys : System) (tables : Tables) (s : Tree) (steps : List (ℕ × Tree)) : Type 0 where

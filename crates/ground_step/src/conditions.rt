@@ -8,7 +8,7 @@ ghost use Rattle.sort_term.specs.Cuts.{AllTrue};
 ghost use Rattle.sort_term.specs.NodeTerms.{seen_term};
 ghost use Rattle.unify.specs.Binds.{Gives};
 ghost use Rattle.ground_step.specs.GroundBinds.{Restricts, ground_binds};
-ghost use Rattle.ground_step.specs.Ready.{IsReady};
+ghost use Rattle.ground_step.specs.Ready.{IsEvaluable};
 
 use data_value::{Ground, Scalar, Value};
 use no_memory::NoMemory;
@@ -23,7 +23,7 @@ pub fn expression_tree<S: Side>(
     expression: &RuleExpr,
     binds: &Binds<Value>,
 ) -> Result<Term<Value>, NoMemory>
-    requires { IsReady semantics.now.cons binds.now expression.now }
+    requires { IsEvaluable semantics.now.cons binds.now expression.now }
     ensures { IfOk result (λ tree. Gives semantics.now.cons (ground_binds binds.now) expression.now (seen_term ground_seen tree)) }
 {
     let mut ground = Ground::new(alloc);
@@ -68,7 +68,7 @@ fn holds<S: Side>(
     condition: &RuleExpr,
     binds: &Binds<Value>,
 ) -> Result<bool, NoMemory>
-    requires { IsReady semantics.now.cons binds.now condition.now }
+    requires { IsEvaluable semantics.now.cons binds.now condition.now }
     ensures { IfOk result (λ ok. Restricts binds.now binds.now ok (λ v. IsTrueTree (value v condition.now))) }
 {
     let tree = expression_tree(alloc, semantics, condition, binds)?;
@@ -82,7 +82,7 @@ pub fn all_hold<S: Side>(
     conditions: &[RuleExpr],
     binds: &Binds<Value>,
 ) -> Result<bool, NoMemory>
-    requires { All (IsReady semantics.now.cons binds.now) conditions.now }
+    requires { All (IsEvaluable semantics.now.cons binds.now) conditions.now }
     ensures { IfOk result (λ ok. Restricts binds.now binds.now ok (λ v. AllTrue v conditions.now)) }
 {
     for condition in conditions {

@@ -4,7 +4,7 @@ ghost use Rattle.sort_term.specs.Tree.{plain_of, value};
 ghost use Rattle.sort_term.specs.Step.{IsState};
 ghost use Rattle.sort_term.specs.Problems.{IsPointOf};
 ghost use Rattle.ground_step.specs.GroundBinds.{Restricts};
-ghost use Rattle.ground_step.specs.Ready.{IsReady};
+ghost use Rattle.ground_step.specs.Ready.{IsEvaluable};
 ghost use Rattle.ground_step.specs.Fit.{AreOf, Determines, DeterminesAll, IsFitOf, IsValueBound, ReadsWithin, RelationIs, some_plain};
 
 use crate::binds::bind;
@@ -141,7 +141,7 @@ fn gives<S: Side>(
     binds: &Binds<Value>,
     tree: &Term<Value>,
 ) -> Result<bool, NoMemory>
-    requires { IsReady semantics.now.cons binds.now term.now }
+    requires { IsEvaluable semantics.now.cons binds.now term.now }
     ensures { IfOk result (λ ok. Restricts binds.now binds.now ok (λ v. value v term.now ≡ tree.now)) }
 {
     let found = expression_tree(alloc, semantics, term, binds)?;

@@ -3,7 +3,7 @@ ghost use Rattle.std.specs.Prelude.{◌↔◌, ◌<◌, All, IfOk, IsTrue, Match
 ghost use Rattle.sort_term.specs.Step.{IsState};
 ghost use Rattle.sort_term.specs.Cuts.{InCut};
 ghost use Rattle.sort_term.specs.Problems.{AreCuts, IsCut, IsProgram};
-ghost use Rattle.ground_step.specs.Steps.{AreSteps, IsCovered, IsTaken, IsTakenAt, StepIs, steps_of, term_of};
+ghost use Rattle.ground_step.specs.Steps.{AreSteps, IsCovered, IsTrueBranch, IsTrueBranchAt, StepIs, steps_of, term_of};
 
 use crate::conditions::{all_hold, all_true, is_true};
 use crate::run::{RunStep, RunSteps};
@@ -60,7 +60,7 @@ pub fn step<S: Side>(
 
 // The place of the first branch whose condition is true.
 fn taken<S: Side>(branches: &[Branch<S, Value>]) -> Option<usize>
-    ensures { MatchOption result (All (λ b. ¬ IsTaken b) branches.now) (IsTakenAt branches.now) }
+    ensures { MatchOption result (All (λ b. ¬ IsTrueBranch b) branches.now) (IsTrueBranchAt branches.now) }
 {
     for place in 0..branches.len() {
         if is_true(&branches[place].condition) {

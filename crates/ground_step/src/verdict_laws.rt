@@ -8,14 +8,14 @@ pub fn witnesses_hold()
     ensures lefts { WitnessedLeftsFail }
 {}
 
-/// A witness at the first point that fails shows the verdict: no other reason has to be known of that point.
+/// Where no point before fails, and no earlier test holds at the failure's point, a witness shows the verdict.
 pub fn first_witnesses_show()
     ensures tests { FirstTestsShow }
     ensures rights { FirstRightsShow }
     ensures lefts { FirstLeftsShow }
 {}
 
-/// A right verdict is the one verdict of the problem, by its kind, its point and its side.
+/// The kind of a right verdict, with its point and its side, is the verdict of the problem.
 pub fn right_verdicts_are_verdicts()
     ensures { RightVerdictsAreVerdicts }
 {}

@@ -7,11 +7,7 @@ use Rattle.rule_text.specs.Turns.{InTurn}
 use Rattle.sort_term.specs.declared.points.Points.{Points}
 use Rattle.sort_term.specs.System.{System}
 use Rattle.sort_term.specs.Problems.{AreCuts, ArePoints}
-<<<<<<< HEAD
-use Rattle.sync_points.specs.Adds.{nothing, known_of_both, Adds}
-=======
 use Rattle.sync_points.specs.Adds.{nothing, known_of, Adds}
->>>>>>> take-side-165601
 
 -- cuts and points that pass their checks
 pub record AreLawful (left right : System) (p : Points) : Type 0 where

@@ -5,7 +5,7 @@ use Rattle.std.proofs.lemmas.List.Elements.{All-head, All-tail}
 use Rattle.sort_term.specs.Step.{StepsBy}
 use Rattle.sort_term.specs.Cuts.{InCut}
 use Rattle.ground_step.specs.Steps.{AreSteps, steps_of}
-use Rattle.ground_step.specs.Reach.{NoneTwice, end_of, run_of, runs_of, EndsInState, EndsIn, AreExactly, Adds, OneStepMore, StopsMoved}
+use Rattle.ground_step.specs.Reach.{NoneTwice, end_of, run_of, runs_of, EndsInState, EndsIn, AreExactly, AddsExactly, OneStepMore, StopsMoved}
 use Rattle.ground_step.proofs.Lists.{contains_nil}
 use Rattle.ground_step.proofs.Exactly.{exactly_none, adds_none}
 use Rattle.ground_step.proofs.Ahead.{with_each_states, with_each_once}
@@ -45,8 +45,8 @@ loop-run-preserved-then-is_empty g c =
       turn = turn_more _ at.yielded (into_iter_items at.run-iterator) (into_iter_items c.next.new.self) run _ _ at.invariant.turn c.in-Some.ensures.steps.0 c.in-Some.ensures.steps.1;
       states = All-tail (EndsInState sys) (run_of run) (runs_of (into_iter_items c.next.new.self)) states;
       outside = subst (λ l. AreExactly (OneStepMore (StepsBy sys tables) l (λ t. ¬ InCut sys.cons c.args.cuts.now t)) (runs_of at.longer.items)) (sym longer) (open_stuck sys tables (run_of run) (steps_of steps) all xs (λ t. ¬ InCut sys.cons c.args.cuts.now t) (runs_of at.longer.items) none at.invariant.outside);
-      met = subst (λ l. Adds (OneStepMore (StepsBy sys tables) l (InCut sys.cons c.args.cuts.now)) (runs_of c.args.met.now) (runs_of at.met)) (sym longer) (met_stuck sys tables (run_of run) (steps_of steps) all xs (InCut sys.cons c.args.cuts.now) (runs_of c.args.met.now) (runs_of at.met) none at.invariant.met);
-      halted = subst (λ l. Adds (StopsMoved (StepsBy sys tables) l) (runs_of c.args.halted.now) (runs_of c.note_moved.new.halted)) (sym longer) (halted_stuck sys tables (run_of run) (steps_of steps) all xs new (runs_of c.args.halted.now) (runs_of at.halted) (runs_of c.note_moved.new.halted) none at.invariant.halted c.in_ok-note_moved.ensures);
+      met = subst (λ l. AddsExactly (OneStepMore (StepsBy sys tables) l (InCut sys.cons c.args.cuts.now)) (runs_of c.args.met.now) (runs_of at.met)) (sym longer) (met_stuck sys tables (run_of run) (steps_of steps) all xs (InCut sys.cons c.args.cuts.now) (runs_of c.args.met.now) (runs_of at.met) none at.invariant.met);
+      halted = subst (λ l. AddsExactly (StopsMoved (StepsBy sys tables) l) (runs_of c.args.halted.now) (runs_of c.note_moved.new.halted)) (sym longer) (halted_stuck sys tables (run_of run) (steps_of steps) all xs new (runs_of c.args.halted.now) (runs_of at.halted) (runs_of c.note_moved.new.halted) none at.invariant.halted c.in_ok-note_moved.ensures);
     }
 
 pub part-requires-clause-states : goal.part-requires-clause-states
@@ -78,14 +78,14 @@ loop-run-preserved g c =
     let new = new_in_turn _ at.yielded (into_iter_items at.run-iterator) (into_iter_items c.next.new.self) run _ at.invariant.turn c.in-Some.ensures.steps.0 (subst (λ l. NoneTwice (runs_of l)) (sym c.into_iter-run-iterator.ensures.into_iter_gives.0) c.requires.once) in
     let longer = map-append run_of at.yielded (run ∷ []) in
     let states = subst (λ l. All (EndsInState sys) (runs_of l)) c.in-Some.ensures.steps.0 at.invariant.states in
-    let opened = subst (λ l. Adds (EndsIn l (λ t. ¬ InCut sys.cons c.args.cuts.now t)) (runs_of at.longer.items) (runs_of c.part.new.outside.items)) c.in_ok-runs.ensures c.in_ok-part.ensures.outside in
-    let met = subst (λ l. Adds (EndsIn l (InCut sys.cons c.args.cuts.now)) (runs_of at.met) (runs_of c.part.new.met)) c.in_ok-runs.ensures c.in_ok-part.ensures.met in
+    let opened = subst (λ l. AddsExactly (EndsIn l (λ t. ¬ InCut sys.cons c.args.cuts.now t)) (runs_of at.longer.items) (runs_of c.part.new.outside.items)) c.in_ok-runs.ensures c.in_ok-part.ensures.outside in
+    let met = subst (λ l. AddsExactly (EndsIn l (InCut sys.cons c.args.cuts.now)) (runs_of at.met) (runs_of c.part.new.met)) c.in_ok-runs.ensures c.in_ok-part.ensures.met in
     record {
       turn = turn_more _ at.yielded (into_iter_items at.run-iterator) (into_iter_items c.next.new.self) run _ _ at.invariant.turn c.in-Some.ensures.steps.0 c.in-Some.ensures.steps.1;
       states = All-tail (EndsInState sys) (run_of run) (runs_of (into_iter_items c.next.new.self)) states;
       outside = subst (λ l. AreExactly (OneStepMore (StepsBy sys tables) l (λ t. ¬ InCut sys.cons c.args.cuts.now t)) (runs_of c.part.new.outside.items)) (sym longer) (open_moved sys tables (run_of run) (steps_of steps) all xs (λ t. ¬ InCut sys.cons c.args.cuts.now t) new (runs_of at.longer.items) (runs_of c.part.new.outside.items) at.invariant.outside opened);
-      met = subst (λ l. Adds (OneStepMore (StepsBy sys tables) l (InCut sys.cons c.args.cuts.now)) (runs_of c.args.met.now) (runs_of c.part.new.met)) (sym longer) (met_moved sys tables (run_of run) (steps_of steps) all xs (InCut sys.cons c.args.cuts.now) new (runs_of c.args.met.now) (runs_of at.met) (runs_of c.part.new.met) at.invariant.met met);
-      halted = subst (λ l. Adds (StopsMoved (StepsBy sys tables) l) (runs_of c.args.halted.now) (runs_of at.halted)) (sym longer) (halted_moved sys tables (run_of run) (steps_of steps) all xs (runs_of c.args.halted.now) (runs_of at.halted) (steps_some steps some) at.invariant.halted);
+      met = subst (λ l. AddsExactly (OneStepMore (StepsBy sys tables) l (InCut sys.cons c.args.cuts.now)) (runs_of c.args.met.now) (runs_of c.part.new.met)) (sym longer) (met_moved sys tables (run_of run) (steps_of steps) all xs (InCut sys.cons c.args.cuts.now) new (runs_of c.args.met.now) (runs_of at.met) (runs_of c.part.new.met) at.invariant.met met);
+      halted = subst (λ l. AddsExactly (StopsMoved (StepsBy sys tables) l) (runs_of c.args.halted.now) (runs_of at.halted)) (sym longer) (halted_moved sys tables (run_of run) (steps_of steps) all xs (runs_of c.args.halted.now) (runs_of at.halted) (steps_some steps some) at.invariant.halted);
     }
 
 pub returns-clause-outside : goal.returns-clause-outside
@@ -96,9 +96,9 @@ returns-clause-outside g c =
 pub returns-clause-met : goal.returns-clause-met
 returns-clause-met g c =
     let whole = turn_end _ c.loop-run.yielded (into_iter_items c.loop-run.run-iterator) _ c.loop-run.invariant.turn c.in-None.ensures.steps.0 ∙ c.into_iter-run-iterator.ensures.into_iter_gives.0 in
-    subst (λ l. Adds (OneStepMore (StepsBy c.args.semantics.now c.args.program.now) (runs_of l) (InCut c.args.semantics.now.cons c.args.cuts.now)) (runs_of c.args.met.now) (runs_of c.loop-run.met)) whole c.loop-run.invariant.met
+    subst (λ l. AddsExactly (OneStepMore (StepsBy c.args.semantics.now c.args.program.now) (runs_of l) (InCut c.args.semantics.now.cons c.args.cuts.now)) (runs_of c.args.met.now) (runs_of c.loop-run.met)) whole c.loop-run.invariant.met
 
 pub returns-clause-halted : goal.returns-clause-halted
 returns-clause-halted g c =
     let whole = turn_end _ c.loop-run.yielded (into_iter_items c.loop-run.run-iterator) _ c.loop-run.invariant.turn c.in-None.ensures.steps.0 ∙ c.into_iter-run-iterator.ensures.into_iter_gives.0 in
-    subst (λ l. Adds (StopsMoved (StepsBy c.args.semantics.now c.args.program.now) (runs_of l)) (runs_of c.args.halted.now) (runs_of c.loop-run.halted)) whole c.loop-run.invariant.halted
+    subst (λ l. AddsExactly (StopsMoved (StepsBy c.args.semantics.now c.args.program.now) (runs_of l)) (runs_of c.args.halted.now) (runs_of c.loop-run.halted)) whole c.loop-run.invariant.halted

@@ -2,7 +2,7 @@ use Rattle.std.proofs.Common.{◌≡◌, ◌≢◌, ◌+◌, ◌∷◌, [], ◌+
 use Rattle.std.proofs.lemmas.List.{take_more, map-append}
 use Rattle.sort_term.specs.Step.{StepsBy}
 use Rattle.ground_step.specs.Steps.{AreSteps, steps_of}
-use Rattle.ground_step.specs.Reach.{end_of, run_of, runs_of, EndsInState, Adds, Stops}
+use Rattle.ground_step.specs.Reach.{end_of, run_of, runs_of, EndsInState, AddsExactly, Stops}
 use Rattle.ground_step.proofs.Lists.{image_here}
 use Rattle.ground_step.proofs.Growing.{new_at, stops_stuck, stops_moved, steps_nil, steps_some}
 use Rattle.ground_step.proofs.reach.note_halted.Goals as goal
@@ -28,8 +28,8 @@ loop-run-preserved g c =
           let none : steps ≡ [] = c.is_empty-in-loop-run.ensures.0 w.if-is_empty.true in
           let noted : runs_of c.if-is_empty.halted ≡ runs_of c.loop-run.halted ++ run_of run ∷ [] =
           ap (λ l. runs_of l) (w.halted-is ∙ w.in_ok-push.ensures.ok) ∙ map-append run_of c.loop-run.halted _ ∙ ap (λ p. runs_of c.loop-run.halted ++ p ∷ []) w.in_ok-copy.ensures in
-          subst (λ l. Adds (Stops (StepsBy sys tables) l) (runs_of c.args.halted.now) (runs_of c.if-is_empty.halted)) (sym longer) (subst (Adds (Stops (StepsBy sys tables) (before ++ run_of run ∷ [])) (runs_of c.args.halted.now)) (sym noted) (stops_stuck sys tables (run_of run) (steps_of steps) all before (new_at xs i run c.loop-run-test.true c.run-item.is c.requires.once) _ _ (steps_nil steps none) c.loop-run.invariant))
+          subst (λ l. AddsExactly (Stops (StepsBy sys tables) l) (runs_of c.args.halted.now) (runs_of c.if-is_empty.halted)) (sym longer) (subst (AddsExactly (Stops (StepsBy sys tables) (before ++ run_of run ∷ [])) (runs_of c.args.halted.now)) (sym noted) (stops_stuck sys tables (run_of run) (steps_of steps) all before (new_at xs i run c.loop-run-test.true c.run-item.is c.requires.once) _ _ (steps_nil steps none) c.loop-run.invariant))
       | else-is_empty w ↦
           let some : steps ≢ [] = (λ e. let y : c.is_empty-in-loop-run.result ≡ true = c.is_empty-in-loop-run.ensures.1 e in let q : true ≡ false = sym y ∙ w.if-is_empty.false in cc) in
-          subst (λ l. Adds (Stops (StepsBy sys tables) l) (runs_of c.args.halted.now) (runs_of c.if-is_empty.halted)) (sym longer) (subst (λ h. Adds (Stops (StepsBy sys tables) (before ++ run_of run ∷ [])) (runs_of c.args.halted.now) (runs_of h)) (sym w.halted-is) (stops_moved sys tables (run_of run) (steps_of steps) all before _ _ (steps_some steps some) c.loop-run.invariant))
+          subst (λ l. AddsExactly (Stops (StepsBy sys tables) l) (runs_of c.args.halted.now) (runs_of c.if-is_empty.halted)) (sym longer) (subst (λ h. AddsExactly (Stops (StepsBy sys tables) (before ++ run_of run ∷ [])) (runs_of c.args.halted.now) (runs_of h)) (sym w.halted-is) (stops_moved sys tables (run_of run) (steps_of steps) all before _ _ (steps_some steps some) c.loop-run.invariant))
     ]

@@ -1,5 +1,5 @@
-use Rattle.ground_step.proofs.Pairs.{NoneBefore}
+use Rattle.ground_step.proofs.Pairs.{NoneRelatesBefore}
 use Rattle.ground_step.proofs.relation.related.Given as goal
 
 abbrev pub invariant-loop-place : goal.invariant-loop-place
-invariant-loop-place l = NoneBefore l.problem l.left.term l.right.term l.place
+invariant-loop-place l = NoneRelatesBefore l.problem l.left.term l.right.term l.place
