@@ -4,6 +4,7 @@ use Rattle.std.proofs.lemmas.Option.{same_Some}
 use Rattle.sort_term.specs.declared.points.Point.{Point}
 use Rattle.sort_term.specs.declared.points.Points.{Points}
 use Rattle.sort_term.specs.declared.problem.Problem.{Problem}
+use Rattle.sort_term.specs.contracts.problem.Problem as problem
 use Rattle.sort_term.specs.Problems.{IsProblem}
 use Rattle.sort_term.specs.Step.{Tables}
 use Rattle.sort_term.specs.System.{System}
@@ -61,6 +62,10 @@ all_load t _ q (points l r lp rp ls rs lps rps none) a =
     (subst (λ (s : System). IsPointsText s r t.points q.points) (one_semantics t.left_semantics q.left l a.left ls)
     (subst (λ (s : System). IsPointsText q.left s t.points q.points) (one_semantics t.right_semantics q.right r a.right rs) a.points))
 
+-- a problem is what its parts make of it, however it is shown that they fit each other
+same_problem : (q : Problem) (f : IsProblem q.left q.right q.left_program q.right_program q.points) → q ≡ record { left = q.left; right = q.right; left_program = q.left_program; right_program = q.right_program; points = q.points; fits = f }
+same_problem q f = problem.the_row.coded.inj q _ refl
+
 -- problems of the same parts have the same verdict
 same_verdict : (n : ℕ) (k : Kind) (q p : Problem) → q.left ≡ p.left → q.right ≡ p.right → q.left_program ≡ p.left_program → q.right_program ≡ p.right_program → q.points ≡ p.points → IsVerdict q n k → IsVerdict p n k
 same_verdict n k q p left right lp rp pts v =
@@ -70,7 +75,7 @@ same_verdict n k q p left right lp rp pts v =
     (subst (λ (a : Tables). (f : IsProblem q.left q.right a p.right_program p.points) → IsVerdict (of q.left q.right a p.right_program p.points f) n k) lp
     (subst (λ (b : Tables). (f : IsProblem q.left q.right q.left_program b p.points) → IsVerdict (of q.left q.right q.left_program b p.points f) n k) rp
     (subst (λ (c : Points). (f : IsProblem q.left q.right q.left_program q.right_program c) → IsVerdict (of q.left q.right q.left_program q.right_program c f) n k) pts
-    (λ _. v))))) p.fits
+    (λ f. subst (λ (r : Problem). IsVerdict r n k) (same_problem q f) v))))) p.fits
 
 -- texts are those of one list of cuts and points, and of one verdict
 module _ (t : FiveTexts) (q p : Problem) (a : AreTextsOf t q) (b : AreTextsOf t p) where
