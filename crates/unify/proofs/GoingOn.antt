@@ -1,7 +1,7 @@
 -- Matchings that go on from one.
 use Rattle.std.proofs.Common.{arith, ◌≡◌, ◌↔◌, ℕ, ◌+◌, ◌<◌, true, false, List, [], ◌∷◌, ◌++◌, length, take, get_or, Some, sym, ap, ◌∙◌, subst, ◌⊎◌, inl, inr}
 use Rattle.std.specs.Prelude.{Any}
-use Rattle.std.proofs.lemmas.List.Elements.{All-nil, All-cons, All-append, All-push, All-weaker}
+use Rattle.std.proofs.lemmas.List.Elements.{All-nil, All-cons, All-append, All-weaker}
 use Rattle.std.proofs.lemmas.List.Sums.{sum_by-cons}
 use Rattle.data_value.specs.declared.DataSort.{DataSort}
 use Rattle.data_value.specs.declared.Scalar.TheVariants.{Flag}
@@ -21,11 +21,12 @@ use Rattle.sort_term.specs.Tree.{Trees, value, pattern_value}
 use Rattle.sort_term.specs.Stands.{times, times_in}
 use Rattle.sort_term.specs.Step.{Tables, Demanded}
 use Rattle.unify.specs.Binds.{IsBound, Agrees, Gives}
-use Rattle.data_value.specs.Truth.{IsCondition}
+use Rattle.data_value.specs.Truth.{IsCondition, AreTrue}
 use Rattle.unify.specs.Meets.{SeenMatching, IsMatching, Fulfils, Equals, Answers}
 use Rattle.unify.specs.Constants.{IsKeyTest, IsTreeTerm}
 use Rattle.unify.specs.Matchings.{Binds, GoOn, ReadsRow, demand_times}
-use Rattle.unify.proofs.Lists.{all_front}
+use Rattle.unify.specs.Equations.{with_equation}
+use Rattle.unify.proofs.KnownEquations.{TellsTrue, with_true, with_all}
 use Rattle.unify.proofs.Anys.{any_more, any_none}
 use Rattle.unify.proofs.Together.{together_same, together_none, together_one, together_append}
 use Rattle.unify.proofs.Truths.{plain_true}
@@ -82,19 +83,23 @@ module _ {N : Type 0} (cons : List Con) (vars : List Var) (variables : List Data
   pub apart_on : (p : Pattern) (t : Term (Seen N)) (old new : SeenMatching N) → Answers cons vars variables p t old new false → GoOn cons vars variables old (λ i. times i p) (Equals p t) []
   apart_on p t old new a = go_on_none old (λ i. times i p) (Equals p t) (λ v f w x e. a.never v w e)
 
+  -- where an equation is known to be false, nothing fulfils the matching that was joined
+  pub dead_on : (p : Pattern) (t : Term (Seen N)) (old new : SeenMatching N) → Answers cons vars variables p t old new true → ((v : List Value) → AreTrue v new.equations → ⊥) → GoOn cons vars variables old (λ i. times i p) (Equals p t) []
+  dead_on p t old new a dead = go_on_none old (λ i. times i p) (Equals p t) (λ v f w x e. dead v ((a.narrows.exact v f w).1 (x, e)).equal)
+
   -- a matching with one more node that has to be true
   abbrev pub with_node : SeenMatching N → Seen N → SeenMatching N
-  with_node m s = record { binds = m.binds; equations = m.equations ++ s ∷ [] }
+  with_node m s = record { binds = m.binds; equations = with_equation m.equations s }
 
-  pub with_fulfils : (m : SeenMatching N) (s : Seen N) (v : List Value) (w : Trees) → Fulfils v w (with_node m s) ↔ (Fulfils v w m × (s.meaning v ≡ One (Flag true)))
-  with_fulfils m s v w =
-      let P : Seen N → Type 0 = λ x. x.meaning v ≡ One (Flag true) in (
-        λ f. let r = all_front P m.equations s f.equal in (record { agrees = f.agrees; equal = r.0 }, r.1),
-        λ x. record { agrees = x.0.agrees; equal = All-push P m.equations s x.0.equal x.1 },
+  pub with_fulfils : (m : SeenMatching N) (s : Seen N) → TellsTrue s → (v : List Value) (w : Trees) → Fulfils v w (with_node m s) ↔ (Fulfils v w m × (s.meaning v ≡ One (Flag true)))
+  with_fulfils m s tells v w =
+      let same = with_true m.equations s v tells in (
+        λ f. let r = same.0 f.equal in (record { agrees = f.agrees; equal = r.0 }, r.1),
+        λ x. record { agrees = x.0.agrees; equal = same.1 (x.0.equal, x.1) },
       )
 
   pub with_lawful : (m : SeenMatching N) (s : Seen N) → IsMatching cons vars m → IsCondition s → IsMatching cons vars (with_node m s)
-  with_lawful m s h c = record { binds = h.binds; equations = All-push IsCondition m.equations s h.equations c }
+  with_lawful m s h c = record { binds = h.binds; equations = with_all m.equations s IsCondition h.equations c }
 
   -- a condition
   module _ (tables : Tables) (e : RuleExpr) (m : SeenMatching N) (lawful : IsMatching cons vars m) (s : Seen N) (condition : IsCondition s) (means : (v : List Value) (w : Trees) → Agrees v m.binds w → value w e ≡ term.Plain (s.meaning v)) where
@@ -104,12 +109,12 @@ module _ {N : Type 0} (cons : List Con) (vars : List Var) (variables : List Data
       λ h. (plain_true (s.meaning v)).0 (sym (means v w f.agrees) ∙ h),
     )
 
-    pub when_on : (n : SeenMatching N) → n ≡ with_node m s → GoOn cons vars variables m (demand_times (When e)) (λ v w. Demanded tables w (When e)) (n ∷ [])
-    when_on n is =
+    pub when_on : TellsTrue s → (n : SeenMatching N) → n ≡ with_node m s → GoOn cons vars variables m (demand_times (When e)) (λ v w. Demanded tables w (When e)) (n ∷ [])
+    when_on tells n is =
         subst (λ x. GoOn cons vars variables m (demand_times (When e)) (λ v w. Demanded tables w (When e)) (x ∷ [])) (sym is)
         (go_on_one m (demand_times (When e)) (λ v w. Demanded tables w (When e)) (with_node m s) (record { lawful = with_lawful m s lawful condition; bound = λ i. (λ b. inl b, λ b. left i b) }) (λ v f w. (
-          λ x. let r = (with_fulfils m s v w).0 x in (r.0, (told v w r.0).0 r.1),
-          λ x. (with_fulfils m s v w).1 (x.0, (told v w x.0).1 x.1),
+          λ x. let r = (with_fulfils m s tells v w).0 x in (r.0, (told v w r.0).0 r.1),
+          λ x. (with_fulfils m s tells v w).1 (x.0, (told v w x.0).1 x.1),
         )))
       where
         left : (i : ℕ) → IsBound m.binds i ⊎ (0 < demand_times (When e) i) → IsBound m.binds i
@@ -129,14 +134,14 @@ module _ {N : Type 0} (cons : List Con) (vars : List Var) (variables : List Data
 
   -- a pattern against the term of a row
   module _ (p : Pattern) (key : Seen N) (r : Row) (m : SeenMatching N) (test : Seen N) (tested : IsKeyTest variables key r.key test) where
-    pub row_on : (t : Term (Seen N)) (ms : List (SeenMatching N)) → IsTreeTerm cons r.term t → GoOn cons vars variables (with_node m test) (λ i. times i p) (Equals p t) ms → GoOn cons vars variables m (λ i. times i p) (λ v w. ReadsRow key p v w r) ms
-    row_on t ms tree g = record {
+    pub row_on : TellsTrue test → (t : Term (Seen N)) (ms : List (SeenMatching N)) → IsTreeTerm cons r.term t → GoOn cons vars variables (with_node m test) (λ i. times i p) (Equals p t) ms → GoOn cons vars variables m (λ i. times i p) (λ v w. ReadsRow key p v w r) ms
+    row_on tells t ms tree g = record {
       each = g.each;
       together = together_same variables ms (λ v w. Fulfils v w (with_node m test) × Equals p t v w) (λ v w. Fulfils v w m × ReadsRow key p v w r) (λ v f w. (
         λ x.
-            let a = (with_fulfils m test v w).0 x.0 in
+            let a = (with_fulfils m test tells v w).0 x.0 in
             (a.0, record { key_is = sym ((tested.exact v f).0 a.1); term_is = sym (tree.means v) ∙ sym x.1 }),
-        λ x. ((with_fulfils m test v w).1 (x.0, (tested.exact v f).1 (sym x.1.key_is)), sym x.1.term_is ∙ sym (tree.means v)),
+        λ x. ((with_fulfils m test tells v w).1 (x.0, (tested.exact v f).1 (sym x.1.key_is)), sym x.1.term_is ∙ sym (tree.means v)),
       )) g.together;
     }
 

@@ -1,5 +1,6 @@
 pub mod Binds
 pub mod Places
+pub mod Equations
 pub mod Meets
 pub mod Constants
 pub mod Branches

@@ -1,5 +1,5 @@
 -- Lists of matchings, and what they come to together.
-use Rattle.std.specs.Prelude.{◌≡◌, ◌↔◌, ◌⊎◌, ℕ, ◌+◌, ◌<◌, ◌^◌, false, IsTrue, IsSome, List, [], ◌∷◌, ◌++◌, length, map, take, slice_get, Option, Some, None, All, Any}
+use Rattle.std.specs.Prelude.{◌≡◌, ◌↔◌, ◌⊎◌, ℕ, ◌+◌, ◌<◌, ◌^◌, false, IsTrue, IsSome, List, [], ◌∷◌, length, map, take, slice_get, Option, Some, None, All, Any}
 use Rattle.data_value.specs.declared.DataSort.{DataSort}
 use Rattle.data_value.specs.declared.Scalar.TheVariants.{Flag}
 use Rattle.data_value.specs.declared.Value.{Value}
@@ -24,6 +24,7 @@ use Rattle.sort_term.specs.Step.{Tables, Demanded}
 use Rattle.unify.specs.declared.matching.Matching.{Matching}
 use Rattle.unify.specs.Binds.{AreValid, IsBound}
 use Rattle.unify.specs.Meets.{SeenMatching, seen_matching, IsMatching, Fulfils, RebindsOnlyScalars, Equals}
+use Rattle.unify.specs.Equations.{with_equation}
 use Rattle.unify.specs.Branches.{SeenBranch, IsBranch, LeadsTo}
 
 -- matchings, with each node seen as all that it is
@@ -74,10 +75,10 @@ pub record Reaches {N : Type 0} (v : List Value) (e : RuleExpr) (t : Tree) (m : 
   pub fulfils : Fulfils v valuation m
   pub result : value valuation e ≡ t
 
--- the matching in which moreover the node is true; none where the node is known to be false
+-- the matching in which moreover the node is true; none where the node is known to be false, and the same one where it is known to be true
 abbrev pub Supposes : {N : Type 0} → (N → Seen N) → Seen N → SeenMatching N → Option (Matching N) → Type 0
 Supposes look s m None = s.known ≡ Some (Flag false)
-Supposes look s m (Some more) = seen_matching look more ≡ record { binds = m.binds; equations = m.equations ++ s ∷ [] }
+Supposes look s m (Some more) = seen_matching look more ≡ record { binds = m.binds; equations = with_equation m.equations s }
 
 -- a row whose key has this width and whose term is of this sort
 pub record IsRowFor (cons : List Con) (width : ℕ) (a : Option Sort) (r : Row) : Type 0 where

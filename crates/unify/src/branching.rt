@@ -12,11 +12,12 @@ ghost use Rattle.unify.specs.Branches.{IsConfiguration, AreBranches, seen_branch
 use crate::binds::unbound;
 use crate::branch::{Branch, BranchList};
 use crate::demands::narrowed;
+use crate::equations::is_known_as;
 use crate::evaluation::evaluate;
 use crate::matching::Matching;
 use crate::matchings::{Matchings, joined};
 use data_value::Domain;
-use data_value::conditions::{all, known_truth};
+use data_value::conditions::all;
 use no_memory::NoMemory;
 use sort_term::{Config, Program, Rule, RuleId, Semantics, Side, Term};
 use sqlite_items::Items;
@@ -161,7 +162,7 @@ fn ended<S: Side, D: Domain>(
     ensures branches { IfOk result (λ bs. BranchesOf semantics.now rule.now (seen_matching (D.look d.old) matching.now ∷ []) (seen_branches (D.look d.new) bs)) }
 {
     let condition = all(alloc, d, matching.equations.as_slice())?;
-    if known_truth(d, &condition) == Some(false) {
+    if is_known_as(d, &condition, false) {
         return Ok(Items::new(alloc)); // Under no valuation is it true.
     }
     let result = evaluate(alloc, d, semantics, &rule.result, &matching.binds)?;

@@ -13,8 +13,10 @@ ghost use Rattle.unify.specs.Meets.{seen_matching, IsMatching, RebindsOnlyScalar
 
 use crate::binds::{Binds, Nodes};
 use crate::copy::copy_term;
+use crate::equations::add_equation;
 use crate::plain::plain_node;
-use data_value::{Domain, Op, Scalar, Value};
+use data_value::conditions::equal;
+use data_value::{Domain, Scalar, Value};
 use no_memory::NoMemory;
 use sort_term::{Pattern, Semantics, Side, Term, Vars};
 use std::alloc::Global;
@@ -161,7 +163,7 @@ pub(crate) fn equate_literal<D: Domain>(
     }
 }
 
-// Adds the equation of two nodes that are truth values, or words of one width.
+// Adds the equation of two nodes that are truth values, or words of one width, unless it is known to be true.
 pub(crate) fn equate<D: Domain>(
     alloc: Global,
     d: &mut D,
@@ -178,11 +180,6 @@ pub(crate) fn equate<D: Domain>(
     ensures same_variables { D.variables d.new ≡ D.variables d.old }
     ensures equal { OnOk result (AddsEquation (D.variables d.old) (map (D.look d.old) equations.old) (map (D.look d.new) equations.new) (λ v. (D.look d.old node.now).meaning v ≡ (D.look d.old other).meaning v)) }
 {
-    let copy = d.copy(node)?;
-    let mut args = Vec::new(alloc);
-    args.push(copy)?;
-    args.push(other)?;
-    let equation = d.apply(Op::Eq, args.as_slice())?;
-    equations.push(equation)?;
-    Ok(())
+    let equation = equal(alloc, d, node, &other)?;
+    Ok(add_equation(d, equation, equations)?)
 }

@@ -11,8 +11,9 @@ ghost use Rattle.unify.specs.Matchings.{seen_matchings, IsOfNodes, GoOn, Suppose
 
 use crate::binds::{Binds, Nodes};
 use crate::copy::copy_term;
+use crate::equations::{add_equation, are_dead, is_known_as};
 use crate::matching::{Matching, join};
-use data_value::{Domain, Scalar};
+use data_value::Domain;
 use no_memory::NoMemory;
 use sort_term::{Pattern, Semantics, Side, Term, Vars};
 use sqlite_items::Items;
@@ -81,7 +82,8 @@ fn copy_nodes<D: Domain>(
     Ok(copies)
 }
 
-/// The matching in which moreover a pattern is equal to a term; none where they are apart.
+/// The matching in which moreover a pattern is equal to a term; none where they are apart, or where an equation is known to
+/// be false.
 pub(crate) fn joined<S: Side, D: Domain>(
     alloc: Global,
     d: &mut D,
@@ -103,6 +105,9 @@ pub(crate) fn joined<S: Side, D: Domain>(
     if !join(alloc, d, semantics, vars, pattern, term, &mut more)? {
         return Ok(Items::new(alloc));
     }
+    if are_dead(d, more.equations.as_slice()) {
+        return Ok(Items::new(alloc));
+    }
     let mut matchings = Items::new(alloc);
     matchings.push(more)?;
     Ok(matchings)
@@ -119,11 +124,10 @@ pub(crate) fn supposed<D: Domain>(
     requires matching { IsOfNodes (seen_matching (D.look d.now) matching.now) }
     ensures { IfOk result (λ more. Supposes (D.look d.now) (D.look d.now node.now) (seen_matching (D.look d.now) matching.now) more) }
 {
-    if d.known(node) == Some(Scalar::Flag(false)) {
+    if is_known_as(d, node, false) {
         return Ok(None);
     }
     let mut more = copy_matching(alloc, d, matching)?;
-    let copy = d.copy(node)?;
-    more.equations.push(copy)?;
+    add_equation(d, d.copy(node)?, &mut more.equations)?;
     Ok(Some(more))
 }
