@@ -1,4 +1,5 @@
 pub mod Binds
+pub mod Scopes
 pub mod Places
 pub mod Equations
 pub mod Meets

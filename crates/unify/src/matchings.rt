@@ -6,8 +6,9 @@ ghost use Rattle.sort_term.specs.Stands.{times};
 ghost use Rattle.sort_term.specs.NodeTerms.{seen_term, seen_sort, is_valid_term};
 ghost use Rattle.unify.specs.Binds.{seen_binds, AreValid};
 ghost use Rattle.data_value.specs.Truth.{IsCondition};
-ghost use Rattle.unify.specs.Meets.{seen_matching, IsMatching, RebindsOnlyScalars, Equals};
-ghost use Rattle.unify.specs.Matchings.{seen_matchings, IsOfNodes, GoOn, Supposes};
+ghost use Rattle.unify.specs.Meets.{seen_matching, IsMatching, RebindsOnlyScalars};
+ghost use Rattle.unify.specs.Matchings.{seen_matchings, IsOfNodes, JoinsPattern, Supposes};
+ghost use Rattle.unify.specs.Scopes.{scope_of};
 
 use crate::binds::{Binds, Nodes};
 use crate::copy::copy_term;
@@ -94,12 +95,16 @@ pub(crate) fn joined<S: Side, D: Domain>(
     matching: Matching<D::Node>,
 ) -> Result<Matchings<D::Node>, NoMemory>
     requires pattern { IsSome (pattern_sort semantics.now.cons vars.now pattern.now) }
-    requires term { seen_sort semantics.now.cons (seen_term (D.look d.old) term.now) ≡ pattern_sort semantics.now.cons vars.now pattern.now }
+    requires term { seen_sort semantics.now.cons (seen_term (D.look d.old) term.now)
+        ≡ pattern_sort semantics.now.cons vars.now pattern.now }
     requires matching { IsMatching semantics.now.cons vars.now (seen_matching (D.look d.old) matching) }
     requires repeats { RebindsOnlyScalars vars.now (seen_matching (D.look d.old) matching).binds (λ i. times i pattern.now) }
     ensures extends { Extends (D.look d.old) (D.look d.new) }
     ensures same_variables { D.variables d.new ≡ D.variables d.old }
-    ensures matchings { IfOk result (λ ms. GoOn semantics.now.cons vars.now (D.variables d.old) (seen_matching (D.look d.old) matching) (λ i. times i pattern.now) (Equals pattern.now (seen_term (D.look d.old) term.now)) (seen_matchings (D.look d.new) ms)) }
+    ensures matchings { IfOk result
+        (λ ms. JoinsPattern (scope_of semantics.now.cons vars.now (D.variables d.old)) pattern.now
+        (seen_term (D.look d.old) term.now) (seen_matching (D.look d.old) matching)
+        (seen_matchings (D.look d.new) ms)) }
 {
     let mut more = matching;
     if !join(alloc, d, semantics, vars, pattern, term, &mut more)? {

@@ -6,6 +6,7 @@ use Rattle.unify.specs.Matchings.{seen_matchings, IsOfNodes, GoOn, Supposes, Rea
 use Rattle.unify.proofs.Carried.{lawful_nodes, matching_stays, condition_valid}
 use Rattle.unify.proofs.KnownEquations.{tells_true}
 use Rattle.unify.proofs.GoingOn.{go_on_from, with_node, with_lawful, row_on, row_off}
+use Rattle.unify.specs.Scopes.{scope_of}
 use Rattle.unify.proofs.rows.row_read.Goals as goal
 
 pub key_test-requires-clause-number : goal.key_test-requires-clause-number
@@ -98,5 +99,5 @@ returns-clause-matchings g c =
     let variables = g.D.Domain.variables c.args.d.now in
     let p = c.args.pattern.now in
     let off = rw c.in-None.is at c.in_ok-more.ensures in
-    subst (λ ms. GoOn cons vars variables m (λ i. times i p) (λ v w. ReadsRow (old c.args.node.now) p v w c.args.row.now) (seen_matchings now ms)) (sym c.new.ensures)
+    subst (λ ms. GoOn (scope_of cons vars variables) m (λ i. times i p) (λ v w. ReadsRow (old c.args.node.now) p v w c.args.row.now) (seen_matchings now ms)) (sym c.new.ensures)
     (row_off cons vars variables p (old c.args.node.now) c.args.row.now m test c.in_ok-test.ensures.test ((g.met.D.Domain.laws c.key_test.new.d).known c.in_ok-test.test _ (condition_valid test c.in_ok-test.ensures.test.condition) off))
