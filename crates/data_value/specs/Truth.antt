@@ -30,7 +30,7 @@ pub record IsTruth {N : Type 0} (s : Seen N) (says : List Value → Bool) : Type
   pub condition : IsCondition s
   pub means : (v : List Value) → truth s v ≡ says v
 
--- all of these nodes mean true where the domain's variables have the values v
+-- All of these nodes mean true where the variables have the values v.
 abbrev pub AreTrue : {N : Type 0} → List Value → List (Seen N) → Type 0
 AreTrue v conditions = All (λ s. s.meaning v ≡ One (Flag true)) conditions
 
@@ -38,17 +38,17 @@ AreTrue v conditions = All (λ s. s.meaning v ≡ One (Flag true)) conditions
 abbrev pub IsKnownAs : {N : Type 0} → Bool → Seen N → Type 0
 IsKnownAs b s = s.known ≡ Some (Flag b)
 
--- What is known of the conditions a and b tells of the joined condition n. The truth value that settles is false where
--- they are joined by "and", and true where by "or".
+-- The condition n joins a and b, and is known wherever what is known of these settles it. The truth value that settles is
+-- false where they are joined by "and", and true where by "or".
 pub record IsFoldedFrom {N : Type 0} (settling : Bool) (a b n : Seen N) : Type 0 where
-  -- where one is known as what settles, so is the joined one
+  -- a condition that is known as what settles settles the joined one
   pub first_settles : IsKnownAs settling a → IsKnownAs settling n
   pub second_settles : IsKnownAs settling b → IsKnownAs settling n
-  -- where one is known as the other truth value, and beside it not both, the joined one is the other condition
+  -- a condition that is known as the other truth value leaves the remaining one, the second where both are
   pub first_leaves : IsKnownAs (not settling) a → n ≡ b
   pub second_leaves : IsKnownAs (not settling) b → a.known ≡ None → n ≡ a
 
--- What is known of conditions tells of the one that is true where all of them are.
+-- The condition n joins all of a list, and is known wherever what is known of these settles it.
 pub record IsAllFoldedFrom {N : Type 0} (conditions : List (Seen N)) (n : Seen N) : Type 0 where
   pub all_known_true : All (IsKnownAs true) conditions → IsKnownAs true n
   pub one_known_false : Any (IsKnownAs false) conditions → IsKnownAs false n

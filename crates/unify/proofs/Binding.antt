@@ -30,6 +30,7 @@ use Rattle.data_value.specs.Truth.{IsCondition}
 use Rattle.unify.specs.Meets.{RebindsOnlyScalars, times_bound, AddsEquation, AreJoined, Equals}
 use Rattle.unify.proofs.Nodes.{data_node, node_sorted, plain_tree, plain_same}
 use Rattle.unify.proofs.Evaluated.{bound_seen, binds_stay}
+use Rattle.unify.specs.Scopes.{scope_of, change_of}
 
 -- a variable stands in itself alone
 pub stands_self : (i : ℕ) → 0 < times i (pattern.Bind i)
@@ -134,7 +135,7 @@ module _ {N : Type 0} (cons : List Con) (vars : List Var) (f : N → Seen N) (bi
             λ e. pattern_value-Bind w i ∙ here ∙ ap term.Plain (e ∙ copy_means) ∙ sym term_tree,
           )
 
-      pub rebound : AreJoined cons vars variables (pattern.Bind i) (seen_term f t) (record { binds = seen_binds f binds; equations = es }) (record { binds = seen_binds g binds; equations = ds })
+      pub rebound : AreJoined (scope_of cons vars variables) (pattern.Bind i) (seen_term f t) (change_of (record { binds = seen_binds f binds; equations = es }) (record { binds = seen_binds g binds; equations = ds }))
       rebound = record {
         clear = bind_clear i (seen_term f t);
         lawful = record { binds = subst (AreBinds cons vars) (sym kept) lawful; equations = added.lawful };
@@ -225,7 +226,7 @@ module _ {N : Type 0} (cons : List Con) (vars : List Var) (variables : List Data
       from (inl h) = let t = there (bound_at bs j) h in subst IsSome (sym (set_before bs i s free j t.0 t.1)) refl
       from (inr l) = subst (IsBound (slice_set bs i (Some s))) (sym (stands_is j i l)) (subst IsSome (sym (set_here bs i s inside)) refl)
 
-  newly_bound : AreJoined cons vars variables (pattern.Bind i) s (record { binds = bs; equations = es }) (record { binds = slice_set bs i (Some s); equations = es })
+  newly_bound : AreJoined (scope_of cons vars variables) (pattern.Bind i) s (change_of (record { binds = bs; equations = es }) (record { binds = slice_set bs i (Some s); equations = es }))
   newly_bound = record {
     clear = bind_clear i s;
     lawful = record { binds = record { long = set_long bs i (Some s) ∙ lawful.long; sorted = λ j t h. new_sorted j t (set_after bs i s j t h) }; equations = conditions };
@@ -240,9 +241,9 @@ module _ {N : Type 0} (cons : List Con) (vars : List Var) (variables : List Data
 
 -- a variable that was free
 pub bound_now : {N : Type 0} (cons : List Con) (vars : List Var) (variables : List DataSort) (f : N → Seen N) (binds now : List (Option (Term N))) (i : ℕ) (t u : Term N) (es : List (Seen N)) → i < length vars → seen_sort cons (seen_term f t) ≡ var_sort vars i → AreBinds cons vars (seen_binds f binds) → bound_at (seen_binds f binds) i ≡ None → All IsCondition es → seen_term f u ≡ seen_term f t → now ≡ slice_set binds i (Some u) →
-    AreJoined cons vars variables (pattern.Bind i) (seen_term f t) (record { binds = seen_binds f binds; equations = es }) (record { binds = seen_binds f now; equations = es })
+    AreJoined (scope_of cons vars variables) (pattern.Bind i) (seen_term f t) (change_of (record { binds = seen_binds f binds; equations = es }) (record { binds = seen_binds f now; equations = es }))
 bound_now cons vars variables f binds now i t u es within sorted lawful free conditions copied set =
-    subst (λ cs. AreJoined cons vars variables (pattern.Bind i) (seen_term f t) (record { binds = seen_binds f binds; equations = es }) (record { binds = cs; equations = es }))
+    subst (λ cs. AreJoined (scope_of cons vars variables) (pattern.Bind i) (seen_term f t) (change_of (record { binds = seen_binds f binds; equations = es }) (record { binds = cs; equations = es })))
     (sym (ap (seen_binds f) set ∙ seen_set f binds i u ∙ ap (λ s. slice_set (seen_binds f binds) i (Some s)) copied))
     (newly_bound cons vars variables (seen_binds f binds) i (seen_term f t) es within sorted lawful free conditions)
 

@@ -25,6 +25,7 @@ use Rattle.unify.specs.Branches.{SeenBranch, seen_branch, seen_branches, IsBranc
 use Rattle.unify.proofs.Lists.{all_mapped}
 use Rattle.unify.proofs.Evaluated.{binds_stay}
 use Rattle.unify.proofs.Binding.{binds_valid}
+use Rattle.unify.specs.Scopes.{scope_of}
 
 -- a condition is a valid node
 pub condition_valid : {N : Type 0} (s : Seen N) → IsCondition s → IsTrue s.valid
@@ -40,7 +41,7 @@ lawful_nodes cons vars m h = record {
 pub bound_nodes : {N : Type 0} (cons : List Con) (vars : List Var) (B : ℕ → Type 0) (ms : List (SeenMatching N)) → All (Binds cons vars B) ms → All IsOfNodes ms
 bound_nodes cons vars B ms a = All-weaker (Binds cons vars B) IsOfNodes (λ m h. lawful_nodes cons vars m h.lawful) ms a
 
-pub going_on_nodes : {N : Type 0} (cons : List Con) (vars : List Var) (variables : List DataSort) (m : SeenMatching N) (count : ℕ → ℕ) (P : List Value → Trees → Type 0) (ms : List (SeenMatching N)) → GoOn cons vars variables m count P ms → All IsOfNodes ms
+pub going_on_nodes : {N : Type 0} (cons : List Con) (vars : List Var) (variables : List DataSort) (m : SeenMatching N) (count : ℕ → ℕ) (P : List Value → Trees → Type 0) (ms : List (SeenMatching N)) → GoOn (scope_of cons vars variables) m count P ms → All IsOfNodes ms
 going_on_nodes cons vars variables m count P ms g = bound_nodes cons vars (λ i. IsBound m.binds i ⊎ (0 < count i)) ms g.each
 
 module _ {N : Type 0} (f g : N → Seen N) (x : Extends f g) where

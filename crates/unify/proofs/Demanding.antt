@@ -23,6 +23,7 @@ use Rattle.unify.specs.Matchings.{Binds, Together, GoOn, IsReady, BoundBy, AreAf
 use Rattle.unify.proofs.Lists.{all_front}
 use Rattle.unify.proofs.Together.{together_same, together_more, together_none}
 use Rattle.unify.proofs.Anys.{any_none}
+use Rattle.unify.specs.Scopes.{scope_of, run_of}
 
 -- a sum above 0
 sum_cases : (a b : ℕ) → 0 < a + b → (0 < a) ⊎ (0 < b)
@@ -92,7 +93,7 @@ module _ (sys : System) (r : Rule) (checked : IsRule sys.cons sys.tables sys.con
             omega arith
 
     -- matchings that go on from one where the next demand is met
-    pub next_bound : (variables : List DataSort) (P : List Value → Trees → Type 0) (m : SeenMatching N) (ms : List (SeenMatching N)) → Binds sys.cons r.vars (BoundBy r k) m → GoOn sys.cons r.vars variables m (demand_times d) P ms → AreAfter sys r (k + 1) ms
+    pub next_bound : (variables : List DataSort) (P : List Value → Trees → Type 0) (m : SeenMatching N) (ms : List (SeenMatching N)) → Binds sys.cons r.vars (BoundBy r k) m → GoOn (scope_of sys.cons r.vars variables) m (demand_times d) P ms → AreAfter sys r (k + 1) ms
     next_bound variables P m ms b g =
         All-weaker (Binds sys.cons r.vars (λ i. IsBound m.binds i ⊎ (0 < demand_times d i))) (Binds sys.cons r.vars (BoundBy r (k + 1))) (λ n h. record { lawful = h.lawful; bound = λ i. (λ x. to i ((h.bound i).0 x), λ x. (h.bound i).1 (from i x)) }) ms g.each
       where
@@ -109,7 +110,7 @@ module _ (sys : System) (r : Rule) (checked : IsRule sys.cons sys.tables sys.con
 
     -- one matching more
     pub next_more : (tables : Tables) (variables : List DataSort) (olds : List (SeenMatching N)) (i : ℕ) (m : SeenMatching N) (ms ns : List (SeenMatching N)) → i < length olds → m ≡ get_or olds i m → AreAfter sys r k olds →
-        AreAfter sys r (k + 1) ms × Together variables ms (λ v w. Any (Fulfils v w) (take i olds) × Demanded tables w d) → GoOn sys.cons r.vars variables m (demand_times d) (λ v w. Demanded tables w d) ns → AreAfter sys r (k + 1) (ms ++ ns) × Together variables (ms ++ ns) (λ v w. Any (Fulfils v w) (take (i + 1) olds) × Demanded tables w d)
+        AreAfter sys r (k + 1) ms × Together variables ms (λ v w. Any (Fulfils v w) (take i olds) × Demanded tables w d) → GoOn (scope_of sys.cons r.vars variables) m (demand_times d) (λ v w. Demanded tables w d) ns → AreAfter sys r (k + 1) (ms ++ ns) × Together variables (ms ++ ns) (λ v w. Any (Fulfils v w) (take (i + 1) olds) × Demanded tables w d)
     next_more tables variables olds i m ms ns il is after so_far g =
         let b : Binds sys.cons r.vars (BoundBy r k) m = subst (Binds sys.cons r.vars (BoundBy r k)) (sym is) (All-get_or (Binds sys.cons r.vars (BoundBy r k)) olds i m il after) in (
           All-append (Binds sys.cons r.vars (BoundBy r (k + 1))) ms ns so_far.0 (next_bound variables (λ v w. Demanded tables w d) m ns b g),
@@ -120,7 +121,7 @@ module _ (sys : System) (r : Rule) (checked : IsRule sys.cons sys.tables sys.con
     next_none tables variables = (All-nil (Binds sys.cons r.vars (BoundBy r (k + 1))), together_none variables (λ v w. Any (Fulfils {N = N} v w) [] × Demanded tables w d) (λ v f w x. any_none (Fulfils {N = N} v w) x.0))
 
     -- after all of them
-    pub next_all : (tables : Tables) (variables : List DataSort) (olds news : List (SeenMatching N)) → AreAfter sys r (k + 1) news × Together variables news (λ v w. Any (Fulfils v w) olds × Demanded tables w d) → Next sys tables variables r k olds news
+    pub next_all : (tables : Tables) (variables : List DataSort) (olds news : List (SeenMatching N)) → AreAfter sys r (k + 1) news × Together variables news (λ v w. Any (Fulfils v w) olds × Demanded tables w d) → Next (run_of sys tables variables r) k olds news
     next_all tables variables olds news x = record {
       each = x.0;
       together = together_same variables news (λ v w. Any (Fulfils v w) olds × Demanded tables w d) (λ v w. Any (Fulfils v w) olds × ((q : Demand) → slice_get r.demands k ≡ Some q → Demanded tables w q)) (λ v f w. (
@@ -133,13 +134,13 @@ module _ (sys : System) (r : Rule) (checked : IsRule sys.cons sys.tables sys.con
         same q h = let s : Some d ≡ Some q = sym there ∙ h in cc
 
 -- no demand, and one demand more
-pub all_met_none : {N : Type 0} (sys : System) (tables : Tables) (variables : List DataSort) (r : Rule) (ms : List (SeenMatching N)) → AreAfter sys r 0 ms → AllMet sys tables variables r 0 ms ms
+pub all_met_none : {N : Type 0} (sys : System) (tables : Tables) (variables : List DataSort) (r : Rule) (ms : List (SeenMatching N)) → AreAfter sys r 0 ms → AllMet (run_of sys tables variables r) 0 ms ms
 all_met_none sys tables variables r ms a = record {
   each = a;
   together = record { exact = λ v f w. (λ x. x.0, λ x. (x, All-nil (Demanded tables w))) };
 }
 
-pub all_met_more : {N : Type 0} (sys : System) (tables : Tables) (variables : List DataSort) (r : Rule) (k : ℕ) (first old new : List (SeenMatching N)) → k < length r.demands → AllMet sys tables variables r k first old → Next sys tables variables r k old new → AllMet sys tables variables r (k + 1) first new
+pub all_met_more : {N : Type 0} (sys : System) (tables : Tables) (variables : List DataSort) (r : Rule) (k : ℕ) (first old new : List (SeenMatching N)) → k < length r.demands → AllMet (run_of sys tables variables r) k first old → Next (run_of sys tables variables r) k old new → AllMet (run_of sys tables variables r) (k + 1) first new
 all_met_more {N} sys tables variables r k first old new l a n = record {
   each = n.each;
   together = record {

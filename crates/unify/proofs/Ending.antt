@@ -1,8 +1,8 @@
 -- Branches of matchings, and the steps of a rule.
-use Rattle.std.proofs.Common.{arith, ◌≡◌, ℕ, ◌+◌, ◌<◌, List, [], ◌∷◌, ◌++◌, length, take, get_or, slice_get, Bool, true, Option, Some, None, IsSome, All, refl, sym, ap, false, ◌∙◌, subst, ◌⊎◌, inl, inr}
-use Rattle.std.specs.Prelude.{Any, IfSome, MatchOption}
-use Rattle.std.specs.Option.{option_eq}
-use mathlib.Core.Bool.{beq}
+use Rattle.std.proofs.Common.{arith, ◌≡◌, ℕ, ◌+◌, ◌<◌, List, [], ◌∷◌, ◌++◌, length, take, get_or, slice_get, Some, IsSome, All, refl, sym, false, ◌∙◌, subst, ◌⊎◌, inl, inr}
+use Rattle.std.specs.Prelude.{Any}
+use Rattle.data_value.specs.declared.Scalar.TheVariants.{Flag}
+use Rattle.data_value.specs.declared.Value.TheVariants.{One}
 use Rattle.std.proofs.lemmas.List.{take_all}
 use Rattle.std.proofs.lemmas.List.Elements.{All-nil, All-cons, All-append}
 use Rattle.data_value.specs.declared.DataSort.{DataSort}
@@ -23,14 +23,14 @@ use Rattle.sort_term.proofs.Declared.{declares}
 use Rattle.unify.specs.declared.matching.Matching.{Matching}
 use Rattle.unify.specs.Binds.{bound_sort, IsBound, Gives}
 use Rattle.unify.specs.Meets.{SeenMatching, seen_matching, Fulfils}
-use Rattle.data_value.specs.Truth.{truth, all_true, IsTruth, IsKnownAs}
-use Rattle.data_value.specs.Values.{flag_of, scalar_of}
+use Rattle.data_value.specs.Truth.{all_true, IsTruth, IsKnownAs}
 use Rattle.unify.proofs.Truths.{all_exact}
 use Rattle.unify.specs.Branches.{SeenBranch, IsBranch, LeadsTo, AreBranches}
 use Rattle.unify.specs.Matchings.{seen_matchings, Binds, BoundBy, Reaches, Started, AllMet, BranchesOf}
 use Rattle.unify.proofs.Lists.{all_mapped}
 use Rattle.unify.proofs.Anys.{any_none, any_one, any_here, any_left, any_right, any_split, any_more, any_among, any_map}
 use Rattle.unify.proofs.Filled.{filled, filled_agrees, filled_long, agreeing_fits, sort_bound}
+use Rattle.unify.specs.Scopes.{run_of}
 
 module _ (sys : System) (r : Rule) (checked : IsRule sys.cons sys.tables sys.config r) where
   all_stand : (i : ℕ) → i < length r.vars → BoundBy r (length r.demands) i
@@ -73,25 +73,14 @@ module _ (sys : System) (r : Rule) (checked : IsRule sys.cons sys.tables sys.con
       }
 
 -- a matching whose equations are together false has none
-pub branch_dead : {N : Type 0} (sys : System) (r : Rule) (m : SeenMatching N) (s : Seen N) → IsTruth s (all_true m.equations) → ((v : List Value) → truth s v ≡ false) → BranchesOf sys r (m ∷ []) []
+pub branch_dead : {N : Type 0} (sys : System) (r : Rule) (m : SeenMatching N) (s : Seen N) → IsTruth s (all_true m.equations) → ((v : List Value) → s.meaning v ≡ One (Flag false)) → BranchesOf sys r (m ∷ []) []
 branch_dead {N} sys r m s all dead = record {
   each = All-nil (IsBranch {N = N} sys);
   exact = λ v t. (
     λ a. absurd (any_none (LeadsTo {N = N} v t) a),
-    λ q. let holds = (all_exact s m.equations all v).1 (any_one (Reaches v r.result t) m q).fulfils.equal in absurd (let e = sym (dead v) ∙ ap (λ y. flag_of (scalar_of y)) holds in cc),
+    λ q. let holds = (all_exact s m.equations all v).1 (any_one (Reaches v r.result t) m q).fulfils.equal in absurd (let e = sym (dead v) ∙ holds in cc),
   );
 }
-
--- what the test of a condition tells
-pub known_false : {N : Type 0} (s : Seen N) (o : Option Bool) (test : Bool) → IfSome o (λ b. (v : List Value) → truth s v ≡ b) → test ≡ option_eq beq o (Some false) → test ≡ true → (v : List Value) → truth s v ≡ false
-known_false s None test means is passes = absurd (cc)
-known_false s (Some true) test means is passes = absurd (cc)
-known_false s (Some false) test means is passes = means
-
-pub not_known_false : {N : Type 0} (s : Seen N) (o : Option Bool) (test : Bool) → MatchOption o (s.known ≡ None) (λ b. IsKnownAs b s) → test ≡ option_eq beq o (Some false) → test ≡ false → ¬ IsKnownAs false s
-not_known_false s None test known is fails = λ h. cc
-not_known_false s (Some true) test known is fails = λ h. cc
-not_known_false s (Some false) test known is fails = absurd (cc)
 
 -- no matching, and one more
 pub branches_none : {N : Type 0} (sys : System) (r : Rule) → BranchesOf {N = N} sys r [] []
@@ -115,7 +104,7 @@ branches_more sys r ms i m bs cs l e a h = record {
     from v t (inr x) = any_right (LeadsTo v t) bs cs ((h.exact v t).1 (any_here (Reaches v r.result t) m [] x))
 
 -- the branches of a rule are those of the matchings in which its head is equal to the configuration and all demands are met
-module _ {N : Type 0} (look : N → Seen N) (variables : List DataSort) (laws : IsLawful look variables) (sys : System) (tables : Tables) (n : ℕ) (r : Rule) (there : slice_get sys.rules n ≡ Some r) (checked : IsRule sys.cons sys.tables sys.config r) (s : Term (Seen N)) (first : List (SeenMatching N)) (ms : List (Matching N)) (started : Started sys variables r s first) (met : AllMet sys tables variables r (length r.demands) first (seen_matchings look ms)) (bs : List (SeenBranch N)) (ended : BranchesOf sys r (seen_matchings look ms) bs) where
+module _ {N : Type 0} (look : N → Seen N) (variables : List DataSort) (laws : IsLawful look variables) (sys : System) (tables : Tables) (n : ℕ) (r : Rule) (there : slice_get sys.rules n ≡ Some r) (checked : IsRule sys.cons sys.tables sys.config r) (s : Term (Seen N)) (first : List (SeenMatching N)) (ms : List (Matching N)) (started : Started sys variables r s first) (met : AllMet (run_of sys tables variables r) (length r.demands) first (seen_matchings look ms)) (bs : List (SeenBranch N)) (ended : BranchesOf sys r (seen_matchings look ms) bs) where
   whole : take (length r.demands) r.demands ≡ r.demands
   whole = take_all (length r.demands) r.demands (omega arith)
 

@@ -1,26 +1,22 @@
 -- Equations of nodes: true exactly where the nodes mean one value.
-use Rattle.std.proofs.Common.{◌≡◌, ◌↔◌, Bool, true, false, ◌&&◌, IsTrue, IsFalse, List, [], ◌∷◌, ◌++◌, map, All, Some, None, IsSome, refl, sym, ap, ◌∙◌, subst}
-use Rattle.std.specs.Prelude.{if◌then◌else◌}
-use Rattle.std.proofs.lemmas.Bool.{and_from}
-use Rattle.std.proofs.lemmas.List.{map-append}
-use Rattle.std.proofs.lemmas.List.Elements.{All-nil, All-cons, All-head, All-tail, All-push}
+use Rattle.std.proofs.Common.{◌≡◌, ◌↔◌, Bool, true, false, IsTrue, IsFalse, List, [], ◌∷◌, map, All, Some, None, refl, sym, ap, ◌∙◌, subst}
+use Rattle.std.proofs.lemmas.List.Elements.{All-nil, All-cons, All-head, All-tail}
 use Rattle.data_value.specs.declared.DataSort.{DataSort}
-use Rattle.data_value.specs.declared.DataSort.TheVariants.{Bool as BoolSort}
 use Rattle.data_value.specs.declared.Scalar.{Scalar}
 use Rattle.data_value.specs.declared.Scalar.TheVariants.{Flag}
 use Rattle.data_value.specs.declared.Value.{Value}
 use Rattle.data_value.specs.declared.Value.TheVariants.{One}
-use Rattle.data_value.specs.declared.Op.TheVariants.{Eq}
-use Rattle.data_value.specs.Sorts.{is_scalar_sort, same_sort, op_sort}
-use Rattle.data_value.specs.Values.{scalar_sort, scalar_of, same_scalar, IsValueOf}
-use Rattle.data_value.specs.Ops.{op_value}
-use Rattle.data_value.specs.Nodes.{Seen, Extends, AllValid, sorts_of, meanings_of, IsValuation, IsLawful, IsApplied}
+use Rattle.data_value.specs.Sorts.{is_scalar_sort}
+use Rattle.data_value.specs.Values.{scalar_sort, flag_of, scalar_of, same_scalar, IsValueOf}
+use Rattle.data_value.specs.Nodes.{Seen, Extends, AllValid, IsValuation, IsLawful}
 use Rattle.data_value.proofs.Grown.{nodes-kept}
 use Rattle.data_value.proofs.OpLemmas.{scalar_values}
-use Rattle.data_value.proofs.TestLemmas.{decides_sort, decides_scalar}
-use Rattle.data_value.specs.Truth.{IsCondition, AreTrue}
+use Rattle.data_value.proofs.TestLemmas.{decides_scalar}
+use Rattle.data_value.specs.Truth.{IsCondition, IsTruth, AreTrue, mean_same}
+use Rattle.data_value.proofs.TruthLemmas.{decides_truth}
 use Rattle.unify.specs.Meets.{AddsEquation, IsOtherScalar}
-use Rattle.unify.proofs.Lists.{all_front}
+use Rattle.unify.specs.Equations.{with_equation}
+use Rattle.unify.proofs.KnownEquations.{TellsTrue, with_true, with_all}
 
 -- conditions are valid nodes
 pub conditions_valid : {N : Type 0} (f : N → Seen N) (es : List N) → All IsCondition (map f es) → AllValid f es
@@ -35,21 +31,19 @@ conditions_kept f g x es a = nodes-kept f g x es (conditions_valid f es a)
 pub conditions_stay : {N : Type 0} (f g : N → Seen N) → Extends f g → (es : List N) → All IsCondition (map f es) → All IsCondition (map g es)
 conditions_stay f g x es a = subst (All IsCondition) (sym (conditions_kept f g x es a)) a
 
--- one more condition
-module _ {N : Type 0} (f g : N → Seen N) (x : Extends f g) (variables : List DataSort) (es ds : List N) (q : N) (lawful : All IsCondition (map f es)) (pushed : ds ≡ es ++ q ∷ []) where
-  all_now : map g ds ≡ map f es ++ g q ∷ []
-  all_now = ap (map g) pushed ∙ map-append g es (q ∷ []) ∙ ap (λ ss. ss ++ g q ∷ []) (conditions_kept f g x es lawful)
+-- one more condition, which is left out where it is known to be true
+module _ {N : Type 0} (f g : N → Seen N) (x : Extends f g) (variables : List DataSort) (es ds : List N) (q : N) (lawful : All IsCondition (map f es)) (added : map g ds ≡ with_equation (map g es) (g q)) where
+  all_now : map g ds ≡ with_equation (map f es) (g q)
+  all_now = added ∙ ap (λ ss. with_equation ss (g q)) (conditions_kept f g x es lawful)
 
-  abbrev IsYes : List Value → Seen N → Type 0
-  IsYes v = λ s. s.meaning v ≡ One (Flag true)
-
-  pub condition_added : IsCondition (g q) → (P : List Value → Type 0) → ((v : List Value) → IsValuation variables v → ((g q).meaning v ≡ One (Flag true)) ↔ P v) → AddsEquation variables (map f es) (map g ds) P
-  condition_added ok P exact = record {
-    lawful = subst (All IsCondition) (sym all_now) (All-push IsCondition (map f es) (g q) lawful ok);
-    exact = λ v fits. (
-      λ h. let r = all_front (IsYes v) (map f es) (g q) (subst (AreTrue v) all_now h) in (r.0, (exact v fits).0 r.1),
-      λ h. subst (AreTrue v) (sym all_now) (All-push (IsYes v) (map f es) (g q) h.0 ((exact v fits).1 h.1)),
-    );
+  pub condition_added : IsCondition (g q) → TellsTrue (g q) → (P : List Value → Type 0) → ((v : List Value) → IsValuation variables v → ((g q).meaning v ≡ One (Flag true)) ↔ P v) → AddsEquation variables (map f es) (map g ds) P
+  condition_added ok tells P exact = record {
+    lawful = subst (All IsCondition) (sym all_now) (with_all (map f es) (g q) IsCondition lawful ok);
+    exact = λ v fits.
+        let same = with_true (map f es) (g q) v tells in (
+          λ h. let r = same.0 (subst (AreTrue v) all_now h) in (r.0, (exact v fits).0 r.1),
+          λ h. subst (AreTrue v) (sym all_now) (same.1 (h.0, (exact v fits).1 h.1)),
+        );
   }
 
 -- no condition more, where P holds anyway
@@ -85,41 +79,14 @@ equal_values s a b scalar ia ib = (to, from)
     from : a ≡ b → One (Flag (same_scalar (scalar_of a) (scalar_of b))) ≡ One (Flag true)
     from e = ap (λ x. One (Flag x)) ((decides_scalar (scalar_of a) (scalar_of b)).1 (ap scalar_of e))
 
-equality_gives : (b : Bool) (s : DataSort) → (if b then Some BoolSort else None) ≡ Some s → s ≡ BoolSort
-equality_gives true s h = cc
-equality_gives false s h = absurd (cc)
-
 -- the equation of a node and another of its sort
-module _ {N : Type 0} (f : N → Seen N) (variables : List DataSort) (n m u : N) (args : List N) (ok : IsTrue (f n).valid) (ok' : IsTrue (f u).valid) (sorts : (f u).sort ≡ (f n).sort) (scalar : IsTrue (is_scalar_sort (f n).sort)) (copied : f m ≡ f n) (args_are : args ≡ m ∷ u ∷ []) where
-  pub equation_valid : AllValid f args
-  equation_valid =
-      subst (AllValid f) (sym args_are)
-      (All-cons (λ x. IsTrue (f x).valid) m (u ∷ []) (ap (λ s. s.valid) copied ∙ ok) (All-cons (λ x. IsTrue (f x).valid) u [] ok' (All-nil (λ x. IsTrue (f x).valid))))
-
-  sorts_are : sorts_of f args ≡ (f n).sort ∷ (f n).sort ∷ []
-  sorts_are = ap (sorts_of f) args_are ∙ ap (λ a. a ∷ (f u).sort ∷ []) (ap (λ s. s.sort) copied) ∙ ap (λ b. (f n).sort ∷ b ∷ []) sorts
-
-  same_test : (is_scalar_sort (f n).sort && same_sort (f n).sort (f n).sort) ≡ true
-  same_test = and_from (is_scalar_sort (f n).sort) (same_sort (f n).sort (f n).sort) scalar ((decides_sort (f n).sort (f n).sort).1 refl)
-
-  fits : op_sort Eq (sorts_of f args) ≡ Some BoolSort
-  fits = ap (op_sort Eq) sorts_are ∙ ap (λ b. if b then Some BoolSort else None) same_test
-
-  pub equation_sorted : IsSome (op_sort Eq (sorts_of f args))
-  equation_sorted = subst IsSome (sym fits) refl
-
-  module _ (g : N → Seen N) (q : N) (made : IsApplied f g Eq args q) where
-    pub equation_condition : IsCondition (g q)
-    equation_condition = let e : Some (g q).sort ≡ Some BoolSort = sym made.sort ∙ fits in record { valid = made.valid; sort = cc }
-
-    equation_means : (v : List Value) → (g q).meaning v ≡ One (Flag (same_scalar (scalar_of ((f n).meaning v)) (scalar_of ((f u).meaning v))))
-    equation_means v =
-        made.means v ∙ ap (λ l. op_value Eq (meanings_of f v l)) args_are ∙ ap (λ s. One (Flag (same_scalar (scalar_of (s.meaning v)) (scalar_of ((f u).meaning v))))) copied
-
-    pub equation_exact : IsLawful f variables → (v : List Value) → IsValuation variables v → ((g q).meaning v ≡ One (Flag true)) ↔ ((f n).meaning v ≡ (f u).meaning v)
-    equation_exact laws v fit =
-        let e = equal_values (f n).sort ((f n).meaning v) ((f u).meaning v) scalar (laws.sorted n ok v fit) (subst (λ s. IsValueOf s ((f u).meaning v)) sorts (laws.sorted u ok' v fit)) in
-        (λ h. e.0 (sym (equation_means v) ∙ h), λ h. equation_means v ∙ e.1 h)
+pub equation_exact : {N : Type 0} (f : N → Seen N) (variables : List DataSort) → IsLawful f variables → (n u : N) → IsTrue (f n).valid → IsTrue (f u).valid → (f u).sort ≡ (f n).sort → IsTrue (is_scalar_sort (f n).sort)
+    → (s : Seen N) → IsTruth s (mean_same (f n) (f u)) → (v : List Value) → IsValuation variables v → (s.meaning v ≡ One (Flag true)) ↔ ((f n).meaning v ≡ (f u).meaning v)
+equation_exact f variables laws n u ok ok' sorts scalar s is v fit =
+    let e = equal_values (f n).sort ((f n).meaning v) ((f u).meaning v) scalar (laws.sorted n ok v fit) (subst (λ d. IsValueOf d ((f u).meaning v)) sorts (laws.sorted u ok' v fit)) in (
+      λ h. e.0 (ap (λ b. One (Flag b)) (sym (is.means v) ∙ (decides_truth v s).1 h)),
+      λ h. (decides_truth v s).0 (is.means v ∙ ap (λ x. flag_of (scalar_of x)) (e.1 h)),
+    )
 
 pub scalar_sorted : (x : Scalar) → IsTrue (is_scalar_sort (scalar_sort x))
 scalar_sorted (Flag b) = refl

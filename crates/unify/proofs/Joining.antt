@@ -38,6 +38,7 @@ use Rattle.unify.specs.Meets.{SeenMatching, IsMatching, RebindsOnlyScalars, Bind
 use Rattle.unify.proofs.Nodes.{out-Con, out-Plain, cons_same, plain_same, data_node, node_sorted, plain_tree, plain_sort}
 use Rattle.unify.proofs.Evaluated.{leaf_value}
 use Rattle.unify.proofs.Binding.{only_place}
+use Rattle.unify.specs.Scopes.{scope_of, change_of}
 
 pub out-Exact : (x : Scalar) → out-Pattern (pattern.Exact x) ≡ Pattern-F.Exact x
 out-Exact x = ap out-Pattern (sym (pattern.rolls-Exact x)) ∙ out-roll-Pattern (Pattern-F.Exact x)
@@ -108,7 +109,7 @@ module _ {N : Type 0} (cons : List Con) (vars : List Var) (f : N → Seen N) (p 
 
     module _ (bs cs : Bound N) (es ds : List (Seen N)) (lawful : AreBinds cons vars bs) (kept : cs ≡ bs) where
       -- where it isn't, the equation is what makes them equal
-      pub literal_joined : ¬ IsOtherScalar x (f n) → AddsEquation variables es ds (λ v. (f n).meaning v ≡ One x) → AreJoined cons vars variables p (seen_term f t) (record { binds = bs; equations = es }) (record { binds = cs; equations = ds })
+      pub literal_joined : ¬ IsOtherScalar x (f n) → AddsEquation variables es ds (λ v. (f n).meaning v ≡ One x) → AreJoined (scope_of cons vars variables) p (seen_term f t) (change_of (record { binds = bs; equations = es }) (record { binds = cs; equations = ds }))
       literal_joined isnt added = record {
         clear = literal_clear isnt;
         lawful = record { binds = subst (AreBinds cons vars) (sym kept) lawful; equations = added.lawful };
@@ -130,7 +131,7 @@ module _ {N : Type 0} (cons : List Con) (vars : List Var) (f : N → Seen N) (p 
           still j (inl h) = h
           still j (inr l) = absurd (let none = ap (times j) is ∙ times-Exact j x in omega arith)
 
-      pub literal_answers : (ok : Bool) → (IsFalse ok ↔ IsOtherScalar x (f n)) → (IsTrue ok → AddsEquation variables es ds (λ v. (f n).meaning v ≡ One x)) → Answers cons vars variables p (seen_term f t) (record { binds = bs; equations = es }) (record { binds = cs; equations = ds }) ok
+      pub literal_answers : (ok : Bool) → (IsFalse ok ↔ IsOtherScalar x (f n)) → (IsTrue ok → AddsEquation variables es ds (λ v. (f n).meaning v ≡ One x)) → Answers (scope_of cons vars variables) p (seen_term f t) (change_of (record { binds = bs; equations = es }) (record { binds = cs; equations = ds })) ok
       literal_answers true apart equal = literal_joined (λ o. let q : true ≡ false = apart.1 o in cc) (equal refl)
       literal_answers false apart equal = literal_apart (apart.0 refl)
 
@@ -224,7 +225,7 @@ module _ {N : Type 0} (cons : List Con) (vars : List Var) (f : N → Seen N) (p 
             k
 
     module _ (variables : List DataSort) (old new : SeenMatching N) where
-      parts_joined : AreAllJoined cons vars variables qs (map (seen_term f) us) old new → AreJoined cons vars variables p (seen_term f t) old new
+      parts_joined : AreAllJoined (scope_of cons vars variables) qs (map (seen_term f) us) (change_of old new) → AreJoined (scope_of cons vars variables) p (seen_term f t) (change_of old new)
       parts_joined j = record {
         clear = parts_clear j.clear;
         lawful = j.lawful;
@@ -260,7 +261,7 @@ module _ {N : Type 0} (cons : List Con) (vars : List Var) (f : N → Seen N) (p 
               ap (pattern_value w) (sym first) ∙ heads_equal ∙ ap (tree_of v) other
           equal_at v w (x ∷ xs) (y ∷ ys) (suc i) q u h k l = let rest : map (pattern_value w) xs ≡ map (tree_of v) ys = cc in equal_at v w xs ys i q u rest k l
 
-      pub parts_answer : (ok : Bool) → AnswersAll cons vars variables qs (map (seen_term f) us) old new ok → Answers cons vars variables p (seen_term f t) old new ok
+      pub parts_answer : (ok : Bool) → AnswersAll (scope_of cons vars variables) qs (map (seen_term f) us) (change_of old new) ok → Answers (scope_of cons vars variables) p (seen_term f t) (change_of old new) ok
       parts_answer true a = parts_joined a
       parts_answer false a = parts_apart a
 
@@ -283,7 +284,7 @@ bind_within cons vars p i is h = go vars i (subst IsSome (ap (pattern_sort cons 
     go (x ∷ xs) (suc i) k = let l = go xs i k in omega arith
 
 -- no patterns yet
-pub none_joined : {N : Type 0} (cons : List Con) (vars : List Var) (variables : List DataSort) (m : SeenMatching N) → IsMatching cons vars m → AreAllJoined cons vars variables [] [] m m
+pub none_joined : {N : Type 0} (cons : List Con) (vars : List Var) (variables : List DataSort) (m : SeenMatching N) → IsMatching cons vars m → AreAllJoined (scope_of cons vars variables) [] [] (change_of m m)
 none_joined cons vars variables m lawful = record {
   clear = tt;
   lawful = lawful;
@@ -296,7 +297,7 @@ none_joined cons vars variables m lawful = record {
     none i (inr l) = absurd (omega arith)
 
 -- one pattern more
-module _ {N : Type 0} (cons : List Con) (vars : List Var) (variables : List DataSort) (xs : List Pattern) (ys : List (Term (Seen N))) (p : Pattern) (t : Term (Seen N)) (old mid new : SeenMatching N) (first : AreAllJoined cons vars variables xs ys old mid) (next : AreJoined cons vars variables p t mid new) where
+module _ {N : Type 0} (cons : List Con) (vars : List Var) (variables : List DataSort) (xs : List Pattern) (ys : List (Term (Seen N))) (p : Pattern) (t : Term (Seen N)) (old mid new : SeenMatching N) (first : AreAllJoined (scope_of cons vars variables) xs ys (change_of old mid)) (next : AreJoined (scope_of cons vars variables) p t (change_of mid new)) where
   clear_more : (qs : List Pattern) (us : List (Term (Seen N))) → length qs ≡ length us → AllClear qs us → AllClear (qs ++ p ∷ []) (us ++ t ∷ [])
   clear_more [] [] l c = (next.clear, tt)
   clear_more [] (b ∷ us) l c = absurd (omega arith)
@@ -314,7 +315,7 @@ module _ {N : Type 0} (cons : List Con) (vars : List Var) (variables : List Data
         λ h. l ∙ ap (λ zs. zs ++ pattern_value w p ∷ []) h.0 ∙ ap (λ z. map (tree_of v) ys ++ z ∷ []) h.1 ∙ sym r,
       )
 
-  pub one_more : length xs ≡ length ys → AreAllJoined cons vars variables (xs ++ p ∷ []) (ys ++ t ∷ []) old new
+  pub one_more : length xs ≡ length ys → AreAllJoined (scope_of cons vars variables) (xs ++ p ∷ []) (ys ++ t ∷ []) (change_of old new)
   one_more long = record {
     clear = clear_more xs ys long first.clear;
     lawful = next.lawful;
@@ -420,13 +421,13 @@ module _ {N : Type 0} (cons : List Con) (vars : List Var) (f g : N → Seen N) (
   pub term_sorted : seen_sort cons (seen_term g t) ≡ pattern_sort cons vars p
   term_sorted = ap (seen_sort cons) term_kept ∙ sorted_before
 
-  pub joined_more : (variables sorts : List DataSort) (old mid new : SeenMatching N) → sorts ≡ variables → length ts ≡ length ps → AreAllJoined cons vars variables (take i ps) (map (seen_term f) (take i ts)) old mid → AreJoined cons vars sorts p (seen_term g t) mid new → AreAllJoined cons vars variables (take (i + 1) ps) (map (seen_term f) (take (i + 1) ts)) old new
+  pub joined_more : (variables sorts : List DataSort) (old mid new : SeenMatching N) → sorts ≡ variables → length ts ≡ length ps → AreAllJoined (scope_of cons vars variables) (take i ps) (map (seen_term f) (take i ts)) (change_of old mid) → AreJoined (scope_of cons vars sorts) p (seen_term g t) (change_of mid new) → AreAllJoined (scope_of cons vars variables) (take (i + 1) ps) (map (seen_term f) (take (i + 1) ts)) (change_of old new)
   joined_more variables sorts old mid new same long first next =
-      let here : AreJoined cons vars variables p (seen_term f t) mid new = subst (λ u. AreJoined cons vars variables p u mid new) term_kept (subst (λ ss. AreJoined cons vars ss p (seen_term g t) mid new) same next) in
+      let here : AreJoined (scope_of cons vars variables) p (seen_term f t) (change_of mid new) = subst (λ u. AreJoined (scope_of cons vars variables) p u (change_of mid new)) term_kept (subst (λ ss. AreJoined (scope_of cons vars ss) p (seen_term g t) (change_of mid new)) same next) in
       let more : take (i + 1) ps ≡ take i ps ++ p ∷ [] = take_more ps i p lp ∙ ap (λ z. take i ps ++ z ∷ []) (sym p_is) in
       let further : map (seen_term f) (take (i + 1) ts) ≡ map (seen_term f) (take i ts) ++ seen_term f t ∷ [] =
       ap (map (seen_term f)) (take_more ts i t lt ∙ ap (λ z. take i ts ++ z ∷ []) (sym t_is)) ∙ map-append (seen_term f) (take i ts) (t ∷ []) in
       let as_many : length (take i ps) ≡ length (map (seen_term f) (take i ts)) = length-take-le i ps (omega arith) ∙ sym (length-map (take i ts) (seen_term f) ∙ length-take-le i ts (omega arith)) in
-      subst (λ xs. AreAllJoined cons vars variables xs (map (seen_term f) (take (i + 1) ts)) old new) (sym more)
-      (subst (λ ys. AreAllJoined cons vars variables (take i ps ++ p ∷ []) ys old new) (sym further)
+      subst (λ xs. AreAllJoined (scope_of cons vars variables) xs (map (seen_term f) (take (i + 1) ts)) (change_of old new)) (sym more)
+      (subst (λ ys. AreAllJoined (scope_of cons vars variables) (take i ps ++ p ∷ []) ys (change_of old new)) (sym further)
       (one_more cons vars variables (take i ps) (map (seen_term f) (take i ts)) p (seen_term f t) old mid new first here as_many))

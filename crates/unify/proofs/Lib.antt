@@ -1,4 +1,5 @@
 pub mod Lists
+pub mod KnownEquations
 pub mod Copied
 pub mod Nodes
 pub mod Equated

@@ -28,6 +28,7 @@ use Rattle.unify.specs.Matchings.{GoOn, IsRowFor, ReadsRow, demand_times}
 use Rattle.unify.proofs.Anys.{any_weaker}
 use Rattle.unify.proofs.RowKeys.{IsAt, row_found}
 use Rattle.unify.proofs.GoingOn.{let_times, go_on_same}
+use Rattle.unify.specs.Scopes.{scope_of}
 
 -- rows of a program have keys of the table's width and terms of its sort
 pub rows_are : (sys : System) (lists : Tables) (k width : ℕ) (t : Table) (rows : List Row) (vars : List Var) (p : Pattern) → IsProgram sys lists → slice_get sys.tables k ≡ Some t → slice_get lists k ≡ Some rows → option_map (λ (x : Table). x.key) (slice_get sys.tables k) ≡ Some width → pattern_sort sys.cons vars p ≡ Some t.sort → All (IsRowFor sys.cons width (pattern_sort sys.cons vars p)) rows
@@ -49,6 +50,6 @@ module _ {N : Type 0} (cons : List Con) (vars : List Var) (variables : List Data
       )
 
   -- a `let` that reads a row
-  pub rows_on : (ms : List (SeenMatching N)) → GoOn cons vars variables m (λ i. times i p) (λ v w. Any (ReadsRow key p v w) rows) ms → GoOn cons vars variables m (demand_times (Let p (RowOf t e))) (λ v w. Demanded tables w (Let p (RowOf t e))) ms
+  pub rows_on : (ms : List (SeenMatching N)) → GoOn (scope_of cons vars variables) m (λ i. times i p) (λ v w. Any (ReadsRow key p v w) rows) ms → GoOn (scope_of cons vars variables) m (demand_times (Let p (RowOf t e))) (λ v w. Demanded tables w (Let p (RowOf t e))) ms
   rows_on ms g =
       go_on_same cons vars variables m (λ i. times i p) (demand_times (Let p (RowOf t e))) (λ v w. Any (ReadsRow key p v w) rows) (λ v w. Demanded tables w (Let p (RowOf t e))) ms (λ i. sym (let_times i p)) (λ v fits w f. reads v w f) g

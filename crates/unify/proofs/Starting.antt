@@ -26,6 +26,7 @@ use Rattle.unify.specs.Matchings.{Binds, GoOn, BoundBy, Started}
 use Rattle.unify.proofs.Together.{together_same}
 use Rattle.unify.proofs.Evaluated.{not_bound}
 use Rattle.unify.proofs.GoingOn.{let_times}
+use Rattle.unify.specs.Scopes.{scope_of}
 
 abbrev Unbound : (N : Type 0) → ℕ → Bound N
 Unbound N n = replicate n None
@@ -73,7 +74,7 @@ nothing_repeats N sys r checked = record {
 }
 
 -- what goes on from nothing where the head is equal to a term has started
-pub has_started : {N : Type 0} (sys : System) (r : Rule) (variables : List DataSort) (s : Term (Seen N)) (ms : List (SeenMatching N)) → GoOn sys.cons r.vars variables (nothing N (length r.vars)) (λ i. times i r.head) (Equals r.head s) ms → Started sys variables r s ms
+pub has_started : {N : Type 0} (sys : System) (r : Rule) (variables : List DataSort) (s : Term (Seen N)) (ms : List (SeenMatching N)) → GoOn (scope_of sys.cons r.vars variables) (nothing N (length r.vars)) (λ i. times i r.head) (Equals r.head s) ms → Started sys variables r s ms
 has_started {N} sys r variables s ms g = record {
   each = All-weaker (Binds sys.cons r.vars (λ i. IsBound (Unbound N (length r.vars)) i ⊎ (0 < times i r.head))) (Binds sys.cons r.vars (BoundBy r 0)) (λ n b. record { lawful = b.lawful; bound = λ i. (λ h. to i ((b.bound i).0 h), λ h. (b.bound i).1 (inr (subst (λ k. 0 < k) (let_times i r.head) h))) }) ms g.each;
   together = together_same variables ms (λ v w. Fulfils v w (nothing N (length r.vars)) × Equals r.head s v w) (Equals r.head s) (λ v f w. (λ x. x.1, λ x. (free v w, x))) g.together;

@@ -22,6 +22,7 @@ use Rattle.unify.specs.Binds.{Bound, seen_binds, bound_at, IsBound}
 use Rattle.data_value.specs.Truth.{IsCondition, AreTrue}
 use Rattle.unify.specs.Meets.{SeenMatching, IsMatching, Fulfils, RebindsOnlyScalars, times_bound, AreJoined, AreUnified}
 use Rattle.unify.proofs.Evaluated.{not_bound}
+use Rattle.unify.specs.Scopes.{scope_of, change_of}
 
 none_at : {N : Type 0} (f : N → Seen N) (n i : ℕ) → bound_at (seen_binds f (replicate n None)) i ≡ None
 none_at f zero i = refl
@@ -59,7 +60,7 @@ module _ {N : Type 0} (cons : List Con) (vars : List Var) (f : N → Seen N) (bi
     equal = subst (λ xs. AreTrue v (map f xs)) (sym none) (All-nil (λ s. s.meaning v ≡ One (Flag true)));
   }
 
-  pub start_unified : (variables : List DataSort) (p : Pattern) (t : Term (Seen N)) (bs : Bound N) (ds : List (Seen N)) → AreJoined cons vars variables p t Start (record { binds = bs; equations = ds }) → AreUnified cons vars variables p t bs ds
+  pub start_unified : (variables : List DataSort) (p : Pattern) (t : Term (Seen N)) (bs : Bound N) (ds : List (Seen N)) → AreJoined (scope_of cons vars variables) p t (change_of Start (record { binds = bs; equations = ds })) → AreUnified cons vars variables p t bs ds
   start_unified variables p t bs ds j = record {
     clear = j.clear;
     lawful = j.lawful.binds;

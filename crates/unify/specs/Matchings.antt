@@ -1,5 +1,5 @@
 -- Lists of matchings, and what they come to together.
-use Rattle.std.specs.Prelude.{◌≡◌, ◌↔◌, ◌⊎◌, ℕ, ◌+◌, ◌<◌, ◌^◌, false, IsTrue, IsSome, List, [], ◌∷◌, ◌++◌, length, map, take, slice_get, Option, Some, None, All, Any}
+use Rattle.std.specs.Prelude.{◌≡◌, ◌↔◌, ◌⊎◌, ℕ, ◌+◌, ◌<◌, ◌^◌, false, IsTrue, IsSome, List, [], ◌∷◌, length, map, take, slice_get, Option, Some, None, All, Any}
 use Rattle.data_value.specs.declared.DataSort.{DataSort}
 use Rattle.data_value.specs.declared.Scalar.TheVariants.{Flag}
 use Rattle.data_value.specs.declared.Value.{Value}
@@ -19,11 +19,13 @@ use Rattle.sort_term.specs.Tree.{Tree, Trees, pattern_value, value}
 use Rattle.sort_term.specs.declared.term.Sort.{Sort}
 use Rattle.sort_term.specs.Sorted.{tree_sort}
 use Rattle.sort_term.specs.Rules.{demand_sort}
-use Rattle.sort_term.specs.Stands.{StandsIn, times_in, demand_reads, let_patterns}
+use Rattle.sort_term.specs.Stands.{StandsIn, times, times_in, demand_reads, let_patterns}
 use Rattle.sort_term.specs.Step.{Tables, Demanded}
 use Rattle.unify.specs.declared.matching.Matching.{Matching}
 use Rattle.unify.specs.Binds.{AreValid, IsBound}
 use Rattle.unify.specs.Meets.{SeenMatching, seen_matching, IsMatching, Fulfils, RebindsOnlyScalars, Equals}
+use Rattle.unify.specs.Equations.{with_equation}
+use Rattle.unify.specs.Scopes.{Scope, Run}
 use Rattle.unify.specs.Branches.{SeenBranch, IsBranch, LeadsTo}
 
 -- matchings, with each node seen as all that it is
@@ -45,13 +47,21 @@ pub record Together {N : Type 0} (variables : List DataSort) (ms : List (SeenMat
   pub exact : (v : List Value) → IsValuation variables v → (w : Trees) → P v w ↔ Any (Fulfils v w) ms
 
 -- matchings that go on from m: the variables that are bound are those of m and those that stand so often, and together they are fulfilled by the valuations that fulfil m and have P
-pub record GoOn {N : Type 0} (cons : List Con) (vars : List Var) (variables : List DataSort) (m : SeenMatching N) (count : ℕ → ℕ) (P : List Value → Trees → Type 0) (ms : List (SeenMatching N)) : Type 0 where
-  pub each : All (Binds cons vars (λ i. IsBound m.binds i ⊎ (0 < count i))) ms
-  pub together : Together variables ms (λ v w. Fulfils v w m × P v w)
+pub record GoOn {N : Type 0} (at : Scope) (m : SeenMatching N) (count : ℕ → ℕ) (P : List Value → Trees → Type 0) (ms : List (SeenMatching N)) : Type 0 where
+  pub each : All (Binds at.cons at.vars (λ i. IsBound m.binds i ⊎ (0 < count i))) ms
+  pub together : Together at.variables ms (λ v w. Fulfils v w m × P v w)
 
 -- how often the variable i stands in the pattern of a demand
 abbrev pub demand_times : Demand → ℕ → ℕ
 demand_times d i = times_in i (let_patterns (d ∷ []))
+
+-- matchings that go on from m: in them moreover the pattern is equal to the term
+abbrev pub JoinsPattern : {N : Type 0} → Scope → Pattern → Term (Seen N) → SeenMatching N → List (SeenMatching N) → Type 0
+JoinsPattern at p t m ms = GoOn at m (λ i. times i p) (Equals p t) ms
+
+-- matchings that go on from m: in them moreover the demand is met where the tables have these rows
+abbrev pub MeetsDemand : {N : Type 0} → Scope → Tables → Demand → SeenMatching N → List (SeenMatching N) → Type 0
+MeetsDemand at tables d m ms = GoOn at m (demand_times d) (λ v w. Demanded tables w d) ms
 
 -- a demand is well sorted, and what it reads is bound; a variable of its pattern that is bound already, or stands there more than once, is a truth value or a bit vector
 pub record IsReady {N : Type 0} (cons : List Con) (tables : List Table) (vars : List Var) (m : SeenMatching N) (d : Demand) : Type 0 where
@@ -74,10 +84,10 @@ pub record Reaches {N : Type 0} (v : List Value) (e : RuleExpr) (t : Tree) (m : 
   pub fulfils : Fulfils v valuation m
   pub result : value valuation e ≡ t
 
--- the matching in which moreover the node is true; none where the node is known to be false
+-- the matching in which moreover the node is true; none where the node is known to be false, and the same one where it is known to be true
 abbrev pub Supposes : {N : Type 0} → (N → Seen N) → Seen N → SeenMatching N → Option (Matching N) → Type 0
 Supposes look s m None = s.known ≡ Some (Flag false)
-Supposes look s m (Some more) = seen_matching look more ≡ record { binds = m.binds; equations = m.equations ++ s ∷ [] }
+Supposes look s m (Some more) = seen_matching look more ≡ record { binds = m.binds; equations = with_equation m.equations s }
 
 -- a row whose key has this width and whose term is of this sort
 pub record IsRowFor (cons : List Con) (width : ℕ) (a : Option Sort) (r : Row) : Type 0 where
@@ -95,14 +105,14 @@ pub record Started {N : Type 0} (sys : System) (variables : List DataSort) (r : 
   pub together : Together variables ms (Equals r.head s)
 
 -- matchings that go on from others: in them moreover the demand at place k is met
-pub record Next {N : Type 0} (sys : System) (tables : Tables) (variables : List DataSort) (r : Rule) (k : ℕ) (old new : List (SeenMatching N)) : Type 0 where
-  pub each : AreAfter sys r (k + 1) new
-  pub together : Together variables new (λ v w. Any (Fulfils v w) old × ((d : Demand) → slice_get r.demands k ≡ Some d → Demanded tables w d))
+pub record Next {N : Type 0} (at : Run) (k : ℕ) (old new : List (SeenMatching N)) : Type 0 where
+  pub each : AreAfter at.sys at.rule (k + 1) new
+  pub together : Together at.variables new (λ v w. Any (Fulfils v w) old × ((d : Demand) → slice_get at.rule.demands k ≡ Some d → Demanded at.tables w d))
 
 -- matchings that go on from others: in them moreover the first k demands are met
-pub record AllMet {N : Type 0} (sys : System) (tables : Tables) (variables : List DataSort) (r : Rule) (k : ℕ) (old new : List (SeenMatching N)) : Type 0 where
-  pub each : AreAfter sys r k new
-  pub together : Together variables new (λ v w. Any (Fulfils v w) old × All (Demanded tables w) (take k r.demands))
+pub record AllMet {N : Type 0} (at : Run) (k : ℕ) (old new : List (SeenMatching N)) : Type 0 where
+  pub each : AreAfter at.sys at.rule k new
+  pub together : Together at.variables new (λ v w. Any (Fulfils v w) old × All (Demanded at.tables w) (take k at.rule.demands))
 
 -- the branches of matchings: they lead exactly to what the rule's result is under the valuations that fulfil one of these
 pub record BranchesOf {N : Type 0} (sys : System) (r : Rule) (ms : List (SeenMatching N)) (bs : List (SeenBranch N)) : Type 0 where

@@ -19,6 +19,7 @@ use Rattle.unify.specs.declared.meet.Meet.{Meet}
 use Rattle.unify.specs.declared.meet.Meet.TheVariants.{Apart, Meets}
 use Rattle.unify.specs.Binds.{Bound, seen_binds, bound_at, IsBound, AreBinds, Agrees}
 use Rattle.unify.specs.Places.{ClashSomewhere}
+use Rattle.unify.specs.Scopes.{Scope, Change}
 
 -- bound variables and equations, with each node seen as all that it is
 pub record SeenMatching (N : Type 0) : Type 0 where
@@ -69,11 +70,11 @@ pub record AreApart {N : Type 0} (p : Pattern) (t : Term (Seen N)) : Type 0 wher
   pub never : (v : List Value) (w : Trees) → ¬ Equals p t v w
 
 -- they clash nowhere, and the matching was narrowed to the valuations that make them equal
-pub record AreJoined {N : Type 0} (cons : List Con) (vars : List Var) (variables : List DataSort) (p : Pattern) (t : Term (Seen N)) (old new : SeenMatching N) : Type 0 where
+pub record AreJoined {N : Type 0} (at : Scope) (p : Pattern) (t : Term (Seen N)) (matching : Change (SeenMatching N)) : Type 0 where
   pub clear : ¬ ClashSomewhere p t
-  pub lawful : IsMatching cons vars new
-  pub binds : BindsAlso old.binds new.binds (λ i. times i p)
-  pub narrows : Narrows variables old new (Equals p t)
+  pub lawful : IsMatching at.cons at.vars matching.new
+  pub binds : BindsAlso matching.old.binds matching.new.binds (λ i. times i p)
+  pub narrows : Narrows at.variables matching.old matching.new (Equals p t)
 
 -- the same of several patterns and terms, place by place
 pub record AreApartAnywhere {N : Type 0} (ps : List Pattern) (ts : List (Term (Seen N))) : Type 0 where
@@ -89,15 +90,16 @@ AllClear [] ts = Unit {0}
 AllClear (p ∷ ps) [] = Unit {0}
 AllClear (p ∷ ps) (t ∷ ts) = ¬ ClashSomewhere p t × AllClear ps ts
 
-pub record AreAllJoined {N : Type 0} (cons : List Con) (vars : List Var) (variables : List DataSort) (ps : List Pattern) (ts : List (Term (Seen N))) (old new : SeenMatching N) : Type 0 where
+pub record AreAllJoined {N : Type 0} (at : Scope) (ps : List Pattern) (ts : List (Term (Seen N))) (matching : Change (SeenMatching N)) : Type 0 where
   pub clear : AllClear ps ts
-  pub lawful : IsMatching cons vars new
-  pub binds : BindsAlso old.binds new.binds (λ i. times_in i ps)
-  pub narrows : Narrows variables old new (AllEqual ps ts)
+  pub lawful : IsMatching at.cons at.vars matching.new
+  pub binds : BindsAlso matching.old.binds matching.new.binds (λ i. times_in i ps)
+  pub narrows : Narrows at.variables matching.old matching.new (AllEqual ps ts)
 
-abbrev pub AnswersAll : {N : Type 0} → List Con → List Var → List DataSort → List Pattern → List (Term (Seen N)) → SeenMatching N → SeenMatching N → Bool → Type 0
-AnswersAll cons vars variables ps ts old new true = AreAllJoined cons vars variables ps ts old new
-AnswersAll cons vars variables ps ts old new false = AreApartAnywhere ps ts
+-- whether they were all joined or are apart somewhere
+abbrev pub AnswersAll : {N : Type 0} → Scope → List Pattern → List (Term (Seen N)) → Change (SeenMatching N) → Bool → Type 0
+AnswersAll at ps ts matching true = AreAllJoined at ps ts matching
+AnswersAll at ps ts matching false = AreApartAnywhere ps ts
 
 -- the node is known as another scalar
 pub record IsOtherScalar {N : Type 0} (x : Scalar) (s : Seen N) : Type 0 where
@@ -111,9 +113,9 @@ pub record AddsEquation {N : Type 0} (variables : List DataSort) (old new : List
   pub exact : (v : List Value) → IsValuation variables v → AreTrue v new ↔ (AreTrue v old × P v)
 
 -- whether they were joined or are apart
-abbrev pub Answers : {N : Type 0} → List Con → List Var → List DataSort → Pattern → Term (Seen N) → SeenMatching N → SeenMatching N → Bool → Type 0
-Answers cons vars variables p t old new true = AreJoined cons vars variables p t old new
-Answers cons vars variables p t old new false = AreApart p t
+abbrev pub Answers : {N : Type 0} → Scope → Pattern → Term (Seen N) → Change (SeenMatching N) → Bool → Type 0
+Answers at p t matching true = AreJoined at p t matching
+Answers at p t matching false = AreApart p t
 
 -- what makes the pattern equal to the term: the values of its variables are those of the binds, and all equations are true
 pub record AreUnified {N : Type 0} (cons : List Con) (vars : List Var) (variables : List DataSort) (p : Pattern) (t : Term (Seen N)) (binds : Bound N) (equations : List (Seen N)) : Type 0 where

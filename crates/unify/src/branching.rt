@@ -8,15 +8,17 @@ ghost use Rattle.sort_term.specs.NodeTerms.{seen_term};
 ghost use Rattle.unify.specs.Meets.{seen_matching, Fulfils, Equals};
 ghost use Rattle.unify.specs.Matchings.{seen_matchings, AreAfter, BranchesOf, Next, Started, AllMet, Binds, BoundBy};
 ghost use Rattle.unify.specs.Branches.{IsConfiguration, AreBranches, seen_branches};
+ghost use Rattle.unify.specs.Scopes.{run_of};
 
 use crate::binds::unbound;
 use crate::branch::{Branch, BranchList};
 use crate::demands::narrowed;
+use crate::equations::is_known_as;
 use crate::evaluation::evaluate;
 use crate::matching::Matching;
 use crate::matchings::{Matchings, joined};
 use data_value::Domain;
-use data_value::conditions::{all, known_truth};
+use data_value::conditions::all;
 use no_memory::NoMemory;
 use sort_term::{Config, Program, Rule, RuleId, Semantics, Side, Term};
 use sqlite_items::Items;
@@ -45,7 +47,9 @@ pub fn branches<S: Side, D: Domain>(
     requires config { IsConfiguration semantics.now (seen_term (D.look d.old) config.now.term) }
     ensures extends { Extends (D.look d.old) (D.look d.new) }
     ensures same_variables { D.variables d.new ≡ D.variables d.old }
-    ensures branches { IfOk result (λ bs. AreBranches (D.variables d.old) semantics.now program.now rule.0 (seen_term (D.look d.old) config.now.term) (seen_branches (D.look d.new) bs)) }
+    ensures branches { IfOk result
+        (λ bs. AreBranches (D.variables d.old) semantics.now program.now rule.0
+        (seen_term (D.look d.old) config.now.term) (seen_branches (D.look d.new) bs)) }
 {
     let rule = &semantics.rules().as_slice()[rule.0];
     let matchings = started(alloc, d, semantics, rule, config.term())?;
@@ -65,7 +69,9 @@ fn started<S: Side, D: Domain>(
     requires term { IsConfiguration semantics.now (seen_term (D.look d.old) term.now) }
     ensures extends { Extends (D.look d.old) (D.look d.new) }
     ensures same_variables { D.variables d.new ≡ D.variables d.old }
-    ensures matchings { IfOk result (λ ms. Started semantics.now (D.variables d.old) rule.now (seen_term (D.look d.old) term.now) (seen_matchings (D.look d.new) ms)) }
+    ensures matchings { IfOk result
+        (λ ms. Started semantics.now (D.variables d.old) rule.now (seen_term (D.look d.old) term.now)
+        (seen_matchings (D.look d.new) ms)) }
 {
     let none = Matching {
         binds: unbound(alloc, rule.vars.len())?,
@@ -88,7 +94,10 @@ fn after_demands<S: Side, D: Domain>(
     requires matchings { AreAfter semantics.now rule.now 0 (seen_matchings (D.look d.old) matchings) }
     ensures extends { Extends (D.look d.old) (D.look d.new) }
     ensures same_variables { D.variables d.new ≡ D.variables d.old }
-    ensures matchings { IfOk result (λ ms. AllMet semantics.now program.now (D.variables d.old) rule.now (length rule.now.demands) (seen_matchings (D.look d.old) matchings) (seen_matchings (D.look d.new) ms)) }
+    ensures matchings { IfOk result
+        (λ ms. AllMet (run_of semantics.now program.now (D.variables d.old) rule.now)
+        (length rule.now.demands) (seen_matchings (D.look d.old) matchings)
+        (seen_matchings (D.look d.new) ms)) }
 {
     let mut found = matchings;
     for place in 0..rule.demands.len() {
@@ -113,7 +122,9 @@ fn after_demand<S: Side, D: Domain>(
     requires matchings { AreAfter semantics.now rule.now place (seen_matchings (D.look d.old) matchings.now) }
     ensures extends { Extends (D.look d.old) (D.look d.new) }
     ensures same_variables { D.variables d.new ≡ D.variables d.old }
-    ensures matchings { IfOk result (λ ms. Next semantics.now program.now (D.variables d.old) rule.now place (seen_matchings (D.look d.old) matchings.now) (seen_matchings (D.look d.new) ms)) }
+    ensures matchings { IfOk result
+        (λ ms. Next (run_of semantics.now program.now (D.variables d.old) rule.now) place
+        (seen_matchings (D.look d.old) matchings.now) (seen_matchings (D.look d.new) ms)) }
 {
     let demand = &rule.demands.as_slice()[place];
     let mut found = Items::new(alloc);
@@ -136,7 +147,9 @@ fn finished<S: Side, D: Domain>(
     requires matchings { AreAfter semantics.now rule.now (length rule.now.demands) (seen_matchings (D.look d.old) matchings.now) }
     ensures extends { Extends (D.look d.old) (D.look d.new) }
     ensures same_variables { D.variables d.new ≡ D.variables d.old }
-    ensures branches { IfOk result (λ bs. BranchesOf semantics.now rule.now (seen_matchings (D.look d.old) matchings.now) (seen_branches (D.look d.new) bs)) }
+    ensures branches { IfOk result
+        (λ bs. BranchesOf semantics.now rule.now (seen_matchings (D.look d.old) matchings.now)
+        (seen_branches (D.look d.new) bs)) }
 {
     let mut branches = Items::new(alloc);
     for matching in matchings {
@@ -155,13 +168,16 @@ fn ended<S: Side, D: Domain>(
     matching: &Matching<D::Node>,
 ) -> Result<BranchList<S, D::Node>, NoMemory>
     requires rule { IsRule semantics.now.cons semantics.now.tables semantics.now.config rule.now }
-    requires matching { Binds semantics.now.cons rule.now.vars (BoundBy rule.now (length rule.now.demands)) (seen_matching (D.look d.old) matching.now) }
+    requires matching { Binds semantics.now.cons rule.now.vars
+        (BoundBy rule.now (length rule.now.demands)) (seen_matching (D.look d.old) matching.now) }
     ensures extends { Extends (D.look d.old) (D.look d.new) }
     ensures same_variables { D.variables d.new ≡ D.variables d.old }
-    ensures branches { IfOk result (λ bs. BranchesOf semantics.now rule.now (seen_matching (D.look d.old) matching.now ∷ []) (seen_branches (D.look d.new) bs)) }
+    ensures branches { IfOk result
+        (λ bs. BranchesOf semantics.now rule.now (seen_matching (D.look d.old) matching.now ∷ [])
+        (seen_branches (D.look d.new) bs)) }
 {
     let condition = all(alloc, d, matching.equations.as_slice())?;
-    if known_truth(d, &condition) == Some(false) {
+    if is_known_as(d, &condition, false) {
         return Ok(Items::new(alloc)); // Under no valuation is it true.
     }
     let result = evaluate(alloc, d, semantics, &rule.result, &matching.binds)?;

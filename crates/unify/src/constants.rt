@@ -10,7 +10,8 @@ ghost use Rattle.sort_term.specs.Sorted.{tree_sort};
 ghost use Rattle.sort_term.specs.NodeTerms.{seen_term, node_sort};
 ghost use Rattle.unify.specs.Constants.{IsKeyTest, IsTreeTerm, AreTreeTerms};
 
-use data_value::{Domain, Op, Scalar, Value};
+use data_value::conditions::equal;
+use data_value::{Domain, Scalar, Value};
 use no_memory::NoMemory;
 use sort_term::{Semantics, Side, Term, Terms};
 use sqlite_items::Items;
@@ -34,11 +35,7 @@ pub(crate) fn key_test<D: Domain>(
         width,
         bits: number,
     }))?;
-    let copy = d.copy(key)?;
-    let mut args = Vec::new(alloc);
-    args.push(copy)?;
-    args.push(literal)?;
-    Ok(d.apply(Op::Eq, args.as_slice())?)
+    Ok(equal(alloc, d, key, &literal)?)
 }
 
 /// A term that means a tree under every valuation.

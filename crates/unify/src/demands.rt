@@ -5,9 +5,9 @@ ghost use Rattle.data_value.specs.Nodes.{Extends};
 ghost use Rattle.sort_term.specs.declared.rule.Demand.TheVariants.{Let, When};
 ghost use Rattle.sort_term.specs.declared.rule.Source.TheVariants.{Expr, Row as RowOf};
 ghost use Rattle.sort_term.specs.Problems.{IsProgram};
-ghost use Rattle.sort_term.specs.Step.{Demanded};
 ghost use Rattle.unify.specs.Meets.{seen_matching, IsMatching, Fulfils};
-ghost use Rattle.unify.specs.Matchings.{seen_matchings, IsReady, GoOn, demand_times};
+ghost use Rattle.unify.specs.Matchings.{seen_matchings, IsReady, MeetsDemand};
+ghost use Rattle.unify.specs.Scopes.{scope_of};
 
 use crate::evaluation::evaluate;
 use crate::matching::Matching;
@@ -35,7 +35,9 @@ pub(crate) fn narrowed<S: Side, D: Domain>(
     requires ready { IsReady semantics.now.cons semantics.now.tables vars.now (seen_matching (D.look d.old) matching.now) demand.now }
     ensures extends { Extends (D.look d.old) (D.look d.new) }
     ensures same_variables { D.variables d.new ≡ D.variables d.old }
-    ensures matchings { IfOk result (λ ms. GoOn semantics.now.cons vars.now (D.variables d.old) (seen_matching (D.look d.old) matching.now) (demand_times demand.now) (λ v w. Demanded program.now w demand.now) (seen_matchings (D.look d.new) ms)) }
+    ensures matchings { IfOk result
+        (λ ms. MeetsDemand (scope_of semantics.now.cons vars.now (D.variables d.old)) program.now
+        demand.now (seen_matching (D.look d.old) matching.now) (seen_matchings (D.look d.new) ms)) }
 {
     match demand {
         Demand::Let(pattern, source) => match source {
@@ -64,10 +66,14 @@ fn let_value<S: Side, D: Domain>(
     matching: &Matching<D::Node>,
 ) -> Result<Matchings<D::Node>, NoMemory>
     requires matching { IsMatching semantics.now.cons vars.now (seen_matching (D.look d.old) matching.now) }
-    requires ready { IsReady semantics.now.cons semantics.now.tables vars.now (seen_matching (D.look d.old) matching.now) (Let pattern.now (Expr expr.now)) }
+    requires ready { IsReady semantics.now.cons semantics.now.tables vars.now
+        (seen_matching (D.look d.old) matching.now) (Let pattern.now (Expr expr.now)) }
     ensures extends { Extends (D.look d.old) (D.look d.new) }
     ensures same_variables { D.variables d.new ≡ D.variables d.old }
-    ensures matchings { IfOk result (λ ms. GoOn semantics.now.cons vars.now (D.variables d.old) (seen_matching (D.look d.old) matching.now) (demand_times (Let pattern.now (Expr expr.now))) (λ v w. Demanded program.now w (Let pattern.now (Expr expr.now))) (seen_matchings (D.look d.new) ms)) }
+    ensures matchings { IfOk result
+        (λ ms. MeetsDemand (scope_of semantics.now.cons vars.now (D.variables d.old)) program.now
+        (Let pattern.now (Expr expr.now)) (seen_matching (D.look d.old) matching.now)
+        (seen_matchings (D.look d.new) ms)) }
 {
     let term = evaluate(alloc, d, semantics, expr, &matching.binds)?;
     let copy = copy_matching(alloc, d, matching)?;
@@ -85,10 +91,14 @@ fn when_true<S: Side, D: Domain>(
     matching: &Matching<D::Node>,
 ) -> Result<Matchings<D::Node>, NoMemory>
     requires matching { IsMatching semantics.now.cons vars.now (seen_matching (D.look d.old) matching.now) }
-    requires ready { IsReady semantics.now.cons semantics.now.tables vars.now (seen_matching (D.look d.old) matching.now) (When condition.now) }
+    requires ready { IsReady semantics.now.cons semantics.now.tables vars.now
+        (seen_matching (D.look d.old) matching.now) (When condition.now) }
     ensures extends { Extends (D.look d.old) (D.look d.new) }
     ensures same_variables { D.variables d.new ≡ D.variables d.old }
-    ensures matchings { IfOk result (λ ms. GoOn semantics.now.cons vars.now (D.variables d.old) (seen_matching (D.look d.old) matching.now) (demand_times (When condition.now)) (λ v w. Demanded program.now w (When condition.now)) (seen_matchings (D.look d.new) ms)) }
+    ensures matchings { IfOk result
+        (λ ms. MeetsDemand (scope_of semantics.now.cons vars.now (D.variables d.old)) program.now
+        (When condition.now) (seen_matching (D.look d.old) matching.now)
+        (seen_matchings (D.look d.new) ms)) }
 {
     let term = evaluate(alloc, d, semantics, condition, &matching.binds)?;
     match supposed(alloc, d, plain_node(&term), matching)? {

@@ -27,10 +27,13 @@ pub fn evaluate<S: Side, D: Domain>(
     binds: &Binds<D::Node>,
 ) -> Result<Term<D::Node>, NoMemory>
     requires valid { AreValid (seen_binds (D.look d.old) binds.now) }
-    requires sorted { IsSome (expr_sort_where semantics.now.cons (bound_sort semantics.now.cons (seen_binds (D.look d.old) binds.now)) expr.now) }
+    requires sorted { IsSome
+        (expr_sort_where semantics.now.cons (bound_sort semantics.now.cons (seen_binds (D.look d.old) binds.now)) expr.now) }
     ensures extends { Extends (D.look d.old) (D.look d.new) }
     ensures same_variables { D.variables d.new ≡ D.variables d.old }
-    ensures value { IfOk result (λ t. Gives semantics.now.cons (seen_binds (D.look d.old) binds.now) expr.now (seen_term (D.look d.new) t)) }
+    ensures value { IfOk result
+        (λ t. Gives semantics.now.cons (seen_binds (D.look d.old) binds.now) expr.now
+        (seen_term (D.look d.new) t)) }
 {
     match expr {
         RuleExpr::Var(variable) => Ok(copy_bound(alloc, d, binds, *variable)?),
@@ -56,10 +59,14 @@ fn evaluate_all<S: Side, D: Domain>(
     binds: &Binds<D::Node>,
 ) -> Result<Vec<Term<D::Node>>, NoMemory>
     requires valid { AreValid (seen_binds (D.look d.old) binds.now) }
-    requires sorted { All (λ e. IsSome (expr_sort_where semantics.now.cons (bound_sort semantics.now.cons (seen_binds (D.look d.old) binds.now)) e)) exprs.now }
+    requires sorted { All
+        (λ e. IsSome (expr_sort_where semantics.now.cons (bound_sort semantics.now.cons (seen_binds (D.look d.old) binds.now)) e))
+        exprs.now }
     ensures extends { Extends (D.look d.old) (D.look d.new) }
     ensures same_variables { D.variables d.new ≡ D.variables d.old }
-    ensures values { IfOk result (λ ts. GiveAll semantics.now.cons (seen_binds (D.look d.old) binds.now) exprs.now (map (seen_term (D.look d.new)) ts.items)) }
+    ensures values { IfOk result
+        (λ ts. GiveAll semantics.now.cons (seen_binds (D.look d.old) binds.now) exprs.now
+        (map (seen_term (D.look d.new)) ts.items)) }
 {
     let mut terms = Vec::new(alloc);
     for expr in exprs {

@@ -8,6 +8,7 @@ mod branching;
 mod constants;
 mod copy;
 mod demands;
+mod equations;
 mod evaluation;
 mod matching;
 mod matchings;

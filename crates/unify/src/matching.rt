@@ -10,11 +10,14 @@ ghost use Rattle.sort_term.specs.Stands.{times, times_in};
 ghost use Rattle.sort_term.specs.NodeTerms.{seen_term, seen_sort};
 ghost use Rattle.data_value.specs.Truth.{IsCondition};
 ghost use Rattle.unify.specs.Meets.{seen_matching, IsMatching, RebindsOnlyScalars, IsOtherScalar, AddsEquation, Answers, AnswersAll};
+ghost use Rattle.unify.specs.Scopes.{scope_of, change_of};
 
 use crate::binds::{Binds, Nodes};
 use crate::copy::copy_term;
+use crate::equations::add_equation;
 use crate::plain::plain_node;
-use data_value::{Domain, Op, Scalar, Value};
+use data_value::conditions::equal;
+use data_value::{Domain, Scalar, Value};
 use no_memory::NoMemory;
 use sort_term::{Pattern, Semantics, Side, Term, Vars};
 use std::alloc::Global;
@@ -40,12 +43,17 @@ pub(crate) fn join<S: Side, D: Domain>(
     matching: &mut Matching<D::Node>,
 ) -> Result<bool, NoMemory>
     requires pattern { IsSome (pattern_sort semantics.now.cons vars.now pattern.now) }
-    requires term { seen_sort semantics.now.cons (seen_term (D.look d.old) term.now) ≡ pattern_sort semantics.now.cons vars.now pattern.now }
+    requires term { seen_sort semantics.now.cons (seen_term (D.look d.old) term.now)
+        ≡ pattern_sort semantics.now.cons vars.now pattern.now }
     requires matching { IsMatching semantics.now.cons vars.now (seen_matching (D.look d.old) matching.old) }
     requires repeats { RebindsOnlyScalars vars.now (seen_matching (D.look d.old) matching.old).binds (λ i. times i pattern.now) }
     ensures extends { Extends (D.look d.old) (D.look d.new) }
     ensures same_variables { D.variables d.new ≡ D.variables d.old }
-    ensures answer { IfOk result (λ ok. Answers semantics.now.cons vars.now (D.variables d.old) pattern.now (seen_term (D.look d.old) term.now) (seen_matching (D.look d.old) matching.old) (seen_matching (D.look d.new) matching.new) ok) }
+    ensures answer { IfOk result
+        (λ ok. Answers (scope_of semantics.now.cons vars.now (D.variables d.old)) pattern.now
+        (seen_term (D.look d.old) term.now)
+        (change_of (seen_matching (D.look d.old) matching.old) (seen_matching (D.look d.new) matching.new))
+        ok) }
 {
     match pattern {
         Pattern::Bind(variable) => Ok(bind(alloc, d, semantics, vars, *variable, term, matching)?),
@@ -86,12 +94,17 @@ fn join_all<S: Side, D: Domain>(
     matching: &mut Matching<D::Node>,
 ) -> Result<bool, NoMemory>
     requires patterns { All (λ p. IsSome (pattern_sort semantics.now.cons vars.now p)) patterns.now }
-    requires terms { map (seen_sort semantics.now.cons) (map (seen_term (D.look d.old)) terms.now) ≡ map (pattern_sort semantics.now.cons vars.now) patterns.now }
+    requires terms { map (seen_sort semantics.now.cons) (map (seen_term (D.look d.old)) terms.now)
+        ≡ map (pattern_sort semantics.now.cons vars.now) patterns.now }
     requires matching { IsMatching semantics.now.cons vars.now (seen_matching (D.look d.old) matching.old) }
     requires repeats { RebindsOnlyScalars vars.now (seen_matching (D.look d.old) matching.old).binds (λ i. times_in i patterns.now) }
     ensures extends { Extends (D.look d.old) (D.look d.new) }
     ensures same_variables { D.variables d.new ≡ D.variables d.old }
-    ensures answer { IfOk result (λ ok. AnswersAll semantics.now.cons vars.now (D.variables d.old) patterns.now (map (seen_term (D.look d.old)) terms.now) (seen_matching (D.look d.old) matching.old) (seen_matching (D.look d.new) matching.new) ok) }
+    ensures answer { IfOk result
+        (λ ok. AnswersAll (scope_of semantics.now.cons vars.now (D.variables d.old)) patterns.now
+        (map (seen_term (D.look d.old)) terms.now)
+        (change_of (seen_matching (D.look d.old) matching.old) (seen_matching (D.look d.new) matching.new))
+        ok) }
 {
     for i in 0..patterns.len() {
         if !join(alloc, d, semantics, vars, &patterns[i], &terms[i], matching)? {
@@ -117,7 +130,11 @@ fn bind<S: Side, D: Domain>(
     requires repeats { RebindsOnlyScalars vars.now (seen_matching (D.look d.old) matching.old).binds (λ i. times i (Bind variable)) }
     ensures extends { Extends (D.look d.old) (D.look d.new) }
     ensures same_variables { D.variables d.new ≡ D.variables d.old }
-    ensures answer { IfOk result (λ ok. Answers semantics.now.cons vars.now (D.variables d.old) (Bind variable) (seen_term (D.look d.old) term.now) (seen_matching (D.look d.old) matching.old) (seen_matching (D.look d.new) matching.new) ok) }
+    ensures answer { IfOk result
+        (λ ok. Answers (scope_of semantics.now.cons vars.now (D.variables d.old)) (Bind variable)
+        (seen_term (D.look d.old) term.now)
+        (change_of (seen_matching (D.look d.old) matching.old) (seen_matching (D.look d.new) matching.new))
+        ok) }
 {
     match matching.binds.get(variable) {
         Some(Some(bound)) => {
@@ -149,7 +166,9 @@ pub(crate) fn equate_literal<D: Domain>(
     ensures extends { Extends (D.look d.old) (D.look d.new) }
     ensures same_variables { D.variables d.new ≡ D.variables d.old }
     ensures apart { IfOk result (λ ok. IsFalse ok ↔ IsOtherScalar scalar (D.look d.old node.now)) }
-    ensures equal { IfOk result (λ ok. IsTrue ok → AddsEquation (D.variables d.old) (map (D.look d.old) equations.old) (map (D.look d.new) equations.new) (λ v. (D.look d.old node.now).meaning v ≡ One scalar)) }
+    ensures equal { IfOk result
+        (λ ok. IsTrue ok → AddsEquation (D.variables d.old) (map (D.look d.old) equations.old)
+        (map (D.look d.new) equations.new) (λ v. (D.look d.old node.now).meaning v ≡ One scalar)) }
 {
     match d.known(node) {
         Some(known) => Ok(known == scalar),
@@ -161,7 +180,7 @@ pub(crate) fn equate_literal<D: Domain>(
     }
 }
 
-// Adds the equation of two nodes that are truth values, or words of one width.
+// Adds the equation of two nodes that are truth values, or words of one width, unless it is known to be true.
 pub(crate) fn equate<D: Domain>(
     alloc: Global,
     d: &mut D,
@@ -176,13 +195,11 @@ pub(crate) fn equate<D: Domain>(
     requires equations { All IsCondition (map (D.look d.old) equations.old) }
     ensures extends { Extends (D.look d.old) (D.look d.new) }
     ensures same_variables { D.variables d.new ≡ D.variables d.old }
-    ensures equal { OnOk result (AddsEquation (D.variables d.old) (map (D.look d.old) equations.old) (map (D.look d.new) equations.new) (λ v. (D.look d.old node.now).meaning v ≡ (D.look d.old other).meaning v)) }
+    ensures equal { OnOk result
+        (AddsEquation (D.variables d.old) (map (D.look d.old) equations.old)
+        (map (D.look d.new) equations.new)
+        (λ v. (D.look d.old node.now).meaning v ≡ (D.look d.old other).meaning v)) }
 {
-    let copy = d.copy(node)?;
-    let mut args = Vec::new(alloc);
-    args.push(copy)?;
-    args.push(other)?;
-    let equation = d.apply(Op::Eq, args.as_slice())?;
-    equations.push(equation)?;
-    Ok(())
+    let equation = equal(alloc, d, node, &other)?;
+    Ok(add_equation(d, equation, equations)?)
 }

@@ -6,13 +6,15 @@ ghost use Rattle.sort_term.specs.Stands.{times};
 ghost use Rattle.sort_term.specs.NodeTerms.{seen_term, seen_sort, is_valid_term};
 ghost use Rattle.unify.specs.Binds.{seen_binds, AreValid};
 ghost use Rattle.data_value.specs.Truth.{IsCondition};
-ghost use Rattle.unify.specs.Meets.{seen_matching, IsMatching, RebindsOnlyScalars, Equals};
-ghost use Rattle.unify.specs.Matchings.{seen_matchings, IsOfNodes, GoOn, Supposes};
+ghost use Rattle.unify.specs.Meets.{seen_matching, IsMatching, RebindsOnlyScalars};
+ghost use Rattle.unify.specs.Matchings.{seen_matchings, IsOfNodes, JoinsPattern, Supposes};
+ghost use Rattle.unify.specs.Scopes.{scope_of};
 
 use crate::binds::{Binds, Nodes};
 use crate::copy::copy_term;
+use crate::equations::{add_equation, are_dead, is_known_as};
 use crate::matching::{Matching, join};
-use data_value::{Domain, Scalar};
+use data_value::Domain;
 use no_memory::NoMemory;
 use sort_term::{Pattern, Semantics, Side, Term, Vars};
 use sqlite_items::Items;
@@ -81,7 +83,8 @@ fn copy_nodes<D: Domain>(
     Ok(copies)
 }
 
-/// The matching in which moreover a pattern is equal to a term; none where they are apart.
+/// The matching in which moreover a pattern is equal to a term; none where they are apart, or where an equation is known to
+/// be false.
 pub(crate) fn joined<S: Side, D: Domain>(
     alloc: Global,
     d: &mut D,
@@ -92,15 +95,22 @@ pub(crate) fn joined<S: Side, D: Domain>(
     matching: Matching<D::Node>,
 ) -> Result<Matchings<D::Node>, NoMemory>
     requires pattern { IsSome (pattern_sort semantics.now.cons vars.now pattern.now) }
-    requires term { seen_sort semantics.now.cons (seen_term (D.look d.old) term.now) ≡ pattern_sort semantics.now.cons vars.now pattern.now }
+    requires term { seen_sort semantics.now.cons (seen_term (D.look d.old) term.now)
+        ≡ pattern_sort semantics.now.cons vars.now pattern.now }
     requires matching { IsMatching semantics.now.cons vars.now (seen_matching (D.look d.old) matching) }
     requires repeats { RebindsOnlyScalars vars.now (seen_matching (D.look d.old) matching).binds (λ i. times i pattern.now) }
     ensures extends { Extends (D.look d.old) (D.look d.new) }
     ensures same_variables { D.variables d.new ≡ D.variables d.old }
-    ensures matchings { IfOk result (λ ms. GoOn semantics.now.cons vars.now (D.variables d.old) (seen_matching (D.look d.old) matching) (λ i. times i pattern.now) (Equals pattern.now (seen_term (D.look d.old) term.now)) (seen_matchings (D.look d.new) ms)) }
+    ensures matchings { IfOk result
+        (λ ms. JoinsPattern (scope_of semantics.now.cons vars.now (D.variables d.old)) pattern.now
+        (seen_term (D.look d.old) term.now) (seen_matching (D.look d.old) matching)
+        (seen_matchings (D.look d.new) ms)) }
 {
     let mut more = matching;
     if !join(alloc, d, semantics, vars, pattern, term, &mut more)? {
+        return Ok(Items::new(alloc));
+    }
+    if are_dead(d, more.equations.as_slice()) {
         return Ok(Items::new(alloc));
     }
     let mut matchings = Items::new(alloc);
@@ -119,11 +129,10 @@ pub(crate) fn supposed<D: Domain>(
     requires matching { IsOfNodes (seen_matching (D.look d.now) matching.now) }
     ensures { IfOk result (λ more. Supposes (D.look d.now) (D.look d.now node.now) (seen_matching (D.look d.now) matching.now) more) }
 {
-    if d.known(node) == Some(Scalar::Flag(false)) {
+    if is_known_as(d, node, false) {
         return Ok(None);
     }
     let mut more = copy_matching(alloc, d, matching)?;
-    let copy = d.copy(node)?;
-    more.equations.push(copy)?;
+    add_equation(d, d.copy(node)?, &mut more.equations)?;
     Ok(Some(more))
 }

@@ -52,7 +52,9 @@ pub fn unify<S: Side, D: Domain>(
     requires repeats { RepeatsOnlyScalars vars.now (head.now ∷ []) }
     ensures extends { Extends (D.look d.old) (D.look d.new) }
     ensures same_variables { D.variables d.new ≡ D.variables d.old }
-    ensures meet { IfOk result (λ m. IsMeet semantics.now.cons vars.now (D.variables d.old) (D.look d.new) head.now (seen_term (D.look d.old) term.now) m) }
+    ensures meet { IfOk result
+        (λ m. IsMeet semantics.now.cons vars.now (D.variables d.old) (D.look d.new) head.now
+        (seen_term (D.look d.old) term.now) m) }
 {
     let mut matching = Matching {
         binds: unbound(alloc, vars.len())?,

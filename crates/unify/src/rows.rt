@@ -8,10 +8,10 @@ ghost use Rattle.sort_term.specs.declared.term.Sort.TheVariants.{Plain as DataOf
 ghost use Rattle.sort_term.specs.Sorted.{pattern_sort};
 ghost use Rattle.sort_term.specs.Stands.{times};
 ghost use Rattle.sort_term.specs.Problems.{IsProgram};
-ghost use Rattle.sort_term.specs.Step.{Demanded};
 ghost use Rattle.sort_term.specs.NodeTerms.{node_sort};
 ghost use Rattle.unify.specs.Meets.{seen_matching, IsMatching, RebindsOnlyScalars};
-ghost use Rattle.unify.specs.Matchings.{seen_matchings, IsReady, GoOn, ReadsRow, IsRowFor, demand_times};
+ghost use Rattle.unify.specs.Matchings.{seen_matchings, IsReady, GoOn, MeetsDemand, ReadsRow, IsRowFor};
+ghost use Rattle.unify.specs.Scopes.{scope_of};
 
 use crate::constants::{constant_term, key_test};
 use crate::evaluation::evaluate;
@@ -39,10 +39,14 @@ pub(crate) fn rows_read<S: Side, D: Domain>(
 ) -> Result<Matchings<D::Node>, NoMemory>
     requires program { IsProgram semantics.now program.now }
     requires matching { IsMatching semantics.now.cons vars.now (seen_matching (D.look d.old) matching.now) }
-    requires ready { IsReady semantics.now.cons semantics.now.tables vars.now (seen_matching (D.look d.old) matching.now) (Let pattern.now (RowOf table key.now)) }
+    requires ready { IsReady semantics.now.cons semantics.now.tables vars.now
+        (seen_matching (D.look d.old) matching.now) (Let pattern.now (RowOf table key.now)) }
     ensures extends { Extends (D.look d.old) (D.look d.new) }
     ensures same_variables { D.variables d.new ≡ D.variables d.old }
-    ensures matchings { IfOk result (λ ms. GoOn semantics.now.cons vars.now (D.variables d.old) (seen_matching (D.look d.old) matching.now) (demand_times (Let pattern.now (RowOf table key.now))) (λ v w. Demanded program.now w (Let pattern.now (RowOf table key.now))) (seen_matchings (D.look d.new) ms)) }
+    ensures matchings { IfOk result
+        (λ ms. MeetsDemand (scope_of semantics.now.cons vars.now (D.variables d.old)) program.now
+        (Let pattern.now (RowOf table key.now)) (seen_matching (D.look d.old) matching.now)
+        (seen_matchings (D.look d.new) ms)) }
 {
     let term = evaluate(alloc, d, semantics, key, &matching.binds)?;
     let node = plain_node(&term);
@@ -83,7 +87,11 @@ fn any_row<S: Side, D: Domain>(
     requires repeats { RebindsOnlyScalars vars.now (seen_matching (D.look d.old) matching.now).binds (λ i. times i pattern.now) }
     ensures extends { Extends (D.look d.old) (D.look d.new) }
     ensures same_variables { D.variables d.new ≡ D.variables d.old }
-    ensures matchings { IfOk result (λ ms. GoOn semantics.now.cons vars.now (D.variables d.old) (seen_matching (D.look d.old) matching.now) (λ i. times i pattern.now) (λ v w. Any (ReadsRow (D.look d.old node.now) pattern.now v w) rows.now) (seen_matchings (D.look d.new) ms)) }
+    ensures matchings { IfOk result
+        (λ ms. GoOn (scope_of semantics.now.cons vars.now (D.variables d.old))
+        (seen_matching (D.look d.old) matching.now) (λ i. times i pattern.now)
+        (λ v w. Any (ReadsRow (D.look d.old node.now) pattern.now v w) rows.now)
+        (seen_matchings (D.look d.new) ms)) }
 {
     let mut matchings = Items::new(alloc);
     for row in rows {
@@ -114,7 +122,11 @@ fn row_read<S: Side, D: Domain>(
     requires repeats { RebindsOnlyScalars vars.now (seen_matching (D.look d.old) matching.now).binds (λ i. times i pattern.now) }
     ensures extends { Extends (D.look d.old) (D.look d.new) }
     ensures same_variables { D.variables d.new ≡ D.variables d.old }
-    ensures matchings { IfOk result (λ ms. GoOn semantics.now.cons vars.now (D.variables d.old) (seen_matching (D.look d.old) matching.now) (λ i. times i pattern.now) (λ v w. ReadsRow (D.look d.old node.now) pattern.now v w row.now) (seen_matchings (D.look d.new) ms)) }
+    ensures matchings { IfOk result
+        (λ ms. GoOn (scope_of semantics.now.cons vars.now (D.variables d.old))
+        (seen_matching (D.look d.old) matching.now) (λ i. times i pattern.now)
+        (λ v w. ReadsRow (D.look d.old node.now) pattern.now v w row.now)
+        (seen_matchings (D.look d.new) ms)) }
 {
     let test = key_test(alloc, d, node, width, row.key)?;
     match supposed(alloc, d, &test, matching)? {

@@ -265,7 +265,7 @@ fn rules_have_branches(rt: HostRuntime) -> Result<(), Fail> {
         (1, 9, None, ""),
         (2, 3, None, "t8"),
         (3, 4, Some(5), "t4"),
-        (3, 4, Some(6), "f4"),
+        (3, 4, Some(6), ""),
     ] {
         let text = found(&rt, alloc, rule, n, m)?;
         assert_eq!(rt; text.as_slice(), expected.as_bytes(), "{rule} {n}");

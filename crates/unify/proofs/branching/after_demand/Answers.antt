@@ -9,6 +9,7 @@ use Rattle.unify.specs.Matchings.{seen_matchings, Binds, BoundBy, AreAfter, Toge
 use Rattle.unify.proofs.Carried.{lawful_nodes, matching_stays, bound_nodes, appended, seen_at, seen_below}
 use Rattle.unify.proofs.GoingOn.{go_on_from}
 use Rattle.unify.proofs.Demanding.{next_ready, next_none, next_more, next_all}
+use Rattle.unify.specs.Scopes.{scope_of}
 use Rattle.unify.proofs.branching.after_demand.Goals as goal
 
 pub loop-matching-init : goal.loop-matching-init
@@ -90,7 +91,7 @@ loop-matching-preserved g c =
     let tables = c.args.program.now in
     let before = seen_matchings now c.loop-matching.found in
     let more = seen_matchings next c.in_ok-more.more in
-    let made : GoOn sys.cons r.vars variables m (demand_times d) (λ v w. Demanded tables w d) more =
+    let made : GoOn (scope_of sys.cons r.vars variables) m (demand_times d) (λ v w. Demanded tables w d) more =
     go_on_from sys.cons r.vars (g.D.Domain.variables c.loop-matching.d) variables (seen_matching now c.matching-item.result) m (demand_times d) (λ v w. Demanded tables w d) more c.loop-matching.invariant.same_variables kept c.in_ok-more.ensures.matchings in
     let all = appended now next c.in_ok-more.ensures.extends c.loop-matching.found c.in_ok-more.more _ (bound_nodes sys.cons r.vars (BoundBy r (k + 1)) before c.loop-matching.invariant.next.0) c.in_ok-append.ensures in
     record {

@@ -6,6 +6,7 @@ use Rattle.sort_term.specs.NodeTerms.{seen_term}
 use Rattle.unify.specs.Meets.{IsMatching, RebindsOnlyScalars, Equals}
 use Rattle.unify.specs.Matchings.{seen_matchings, GoOn}
 use Rattle.unify.proofs.Starting.{seen_nothing, nothing_lawful, nothing_repeats, head_some, has_started}
+use Rattle.unify.specs.Scopes.{scope_of}
 use Rattle.unify.proofs.branching.started.Goals as goal
 
 pub joined-requires-clause-pattern : goal.joined-requires-clause-pattern
@@ -33,4 +34,4 @@ returns-clause-matchings g c =
     let s = seen_term look c.args.term.now in
     let ms = seen_matchings (g.D.Domain.look c.joined.new.d) c.in_ok-joined.field-0 in
     has_started c.args.semantics.now r (g.D.Domain.variables c.args.d.now) s ms
-    (subst (λ x. GoOn c.args.semantics.now.cons r.vars (g.D.Domain.variables c.args.d.now) x (λ i. times i r.head) (Equals r.head s) ms) (seen_nothing look (length r.vars) (record { binds = c.in_ok-unbound.field-0; equations = c.new.result }) (c.in_ok-unbound.ensures ∙ ap (λ (n : ℕ). let bs : List (Option (Term g.row.D-Node.Denot)) = replicate n None in bs) c.len.ensures) c.new.ensures) c.in_ok-joined.ensures.matchings)
+    (subst (λ x. GoOn (scope_of c.args.semantics.now.cons r.vars (g.D.Domain.variables c.args.d.now)) x (λ i. times i r.head) (Equals r.head s) ms) (seen_nothing look (length r.vars) (record { binds = c.in_ok-unbound.field-0; equations = c.new.result }) (c.in_ok-unbound.ensures ∙ ap (λ (n : ℕ). let bs : List (Option (Term g.row.D-Node.Denot)) = replicate n None in bs) c.len.ensures) c.new.ensures) c.in_ok-joined.ensures.matchings)

@@ -3,6 +3,7 @@ use Rattle.sort_term.specs.declared.rule.Demand.TheVariants.{Let}
 use Rattle.sort_term.specs.Step.{Demanded}
 use Rattle.unify.specs.Meets.{seen_matching}
 use Rattle.unify.specs.Matchings.{seen_matchings, IsReady, GoOn, demand_times}
+use Rattle.unify.specs.Scopes.{scope_of}
 use Rattle.unify.proofs.demands.narrowed.Goals as goal
 
 pub let_value-requires-clause-ready : goal.let_value-requires-clause-ready
@@ -18,16 +19,16 @@ pub returns-in_ok-let_value-in-Expr-clause-matchings : goal.returns-in_ok-let_va
 returns-in_ok-let_value-in-Expr-clause-matchings g c =
     let m = seen_matching (g.D.Domain.look c.args.d.now) c.args.matching.now in
     let ms = seen_matchings (g.D.Domain.look c.let_value.new.d) c.in_ok-let_value-in-Expr.field-0 in
-    subst (λ d. GoOn c.args.semantics.now.cons c.args.vars.now (g.D.Domain.variables c.args.d.now) m (demand_times d) (λ v w. Demanded c.args.program.now w d) ms) (sym (c.in-Let.is ∙ ap (Let c.in-Let.pattern) c.in-Expr.is)) c.in_ok-let_value-in-Expr.ensures.matchings
+    subst (λ d. GoOn (scope_of c.args.semantics.now.cons c.args.vars.now (g.D.Domain.variables c.args.d.now)) m (demand_times d) (λ v w. Demanded c.args.program.now w d) ms) (sym (c.in-Let.is ∙ ap (Let c.in-Let.pattern) c.in-Expr.is)) c.in_ok-let_value-in-Expr.ensures.matchings
 
 pub returns-in_ok-rows_read-in-Row-clause-matchings : goal.returns-in_ok-rows_read-in-Row-clause-matchings
 returns-in_ok-rows_read-in-Row-clause-matchings g c =
     let m = seen_matching (g.D.Domain.look c.args.d.now) c.args.matching.now in
     let ms = seen_matchings (g.D.Domain.look c.rows_read.new.d) c.in_ok-rows_read-in-Row.field-0 in
-    subst (λ d. GoOn c.args.semantics.now.cons c.args.vars.now (g.D.Domain.variables c.args.d.now) m (demand_times d) (λ v w. Demanded c.args.program.now w d) ms) (sym (c.in-Let.is ∙ ap (Let c.in-Let.pattern) c.in-Row.is)) c.in_ok-rows_read-in-Row.ensures.matchings
+    subst (λ d. GoOn (scope_of c.args.semantics.now.cons c.args.vars.now (g.D.Domain.variables c.args.d.now)) m (demand_times d) (λ v w. Demanded c.args.program.now w d) ms) (sym (c.in-Let.is ∙ ap (Let c.in-Let.pattern) c.in-Row.is)) c.in_ok-rows_read-in-Row.ensures.matchings
 
 pub returns-in_ok-when_true-in-When-clause-matchings : goal.returns-in_ok-when_true-in-When-clause-matchings
 returns-in_ok-when_true-in-When-clause-matchings g c =
     let m = seen_matching (g.D.Domain.look c.args.d.now) c.args.matching.now in
     let ms = seen_matchings (g.D.Domain.look c.when_true.new.d) c.in_ok-when_true-in-When.field-0 in
-    subst (λ d. GoOn c.args.semantics.now.cons c.args.vars.now (g.D.Domain.variables c.args.d.now) m (demand_times d) (λ v w. Demanded c.args.program.now w d) ms) (sym c.in-When.is) c.in_ok-when_true-in-When.ensures.matchings
+    subst (λ d. GoOn (scope_of c.args.semantics.now.cons c.args.vars.now (g.D.Domain.variables c.args.d.now)) m (demand_times d) (λ v w. Demanded c.args.program.now w d) ms) (sym c.in-When.is) c.in_ok-when_true-in-When.ensures.matchings

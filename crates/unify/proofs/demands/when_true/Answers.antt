@@ -10,7 +10,9 @@ use Rattle.unify.proofs.Binding.{binds_valid}
 use Rattle.unify.proofs.Carried.{lawful_nodes, matching_stays, condition_valid}
 use Rattle.unify.proofs.KeyTests.{condition_from}
 use Rattle.unify.proofs.Readied.{when_sort, when_some}
+use Rattle.unify.proofs.KnownEquations.{tells_true}
 use Rattle.unify.proofs.GoingOn.{when_on, when_off}
+use Rattle.unify.specs.Scopes.{scope_of}
 use Rattle.unify.proofs.demands.when_true.Goals as goal
 
 pub evaluate-requires-clause-valid : goal.evaluate-requires-clause-valid
@@ -67,8 +69,8 @@ returns-in-Some-clause-matchings g c =
     let e = c.args.condition.now in
     let condition = condition_from (now node) (sym (plain_sort cons now node) ∙ ap (λ t. seen_sort cons (seen_term now t)) (sym c.plain_node.ensures) ∙ c.in_ok-term.ensures.value.sorted ∙ when_sort cons tables vars m lawful e c.requires.ready) in
     let more = rw c.in-Some.is at c.in_ok-more.ensures in
-    subst (λ ms. GoOn cons vars (g.D.Domain.variables c.args.d.now) m (demand_times (When e)) (λ v w. Demanded c.args.program.now w (When e)) (seen_matchings now ms)) (sym (c.in_ok-push-in-Some.ensures.ok ∙ ap (λ ms. ms ++ c.in-Some.more ∷ []) c.new-matchings.ensures))
-    (when_on cons vars (g.D.Domain.variables c.args.d.now) c.args.program.now e m lawful (now node) condition (λ v w a. c.in_ok-term.ensures.value.means v w a ∙ ap (λ t. tree_of v (seen_term now t)) c.plain_node.ensures ∙ plain_tree now v node) (seen_matching now c.in-Some.more) (subst (λ x. Supposes now (now node) x (Some c.in-Some.more)) kept more))
+    subst (λ ms. GoOn (scope_of cons vars (g.D.Domain.variables c.args.d.now)) m (demand_times (When e)) (λ v w. Demanded c.args.program.now w (When e)) (seen_matchings now ms)) (sym (c.in_ok-push-in-Some.ensures.ok ∙ ap (λ ms. ms ++ c.in-Some.more ∷ []) c.new-matchings.ensures))
+    (when_on cons vars (g.D.Domain.variables c.args.d.now) c.args.program.now e m lawful (now node) condition (λ v w a. c.in_ok-term.ensures.value.means v w a ∙ ap (λ t. tree_of v (seen_term now t)) c.plain_node.ensures ∙ plain_tree now v node) (tells_true now (g.D.Domain.variables c.evaluate.new.d) (g.met.D.Domain.laws c.evaluate.new.d) node condition) (seen_matching now c.in-Some.more) (subst (λ x. Supposes now (now node) x (Some c.in-Some.more)) kept more))
 
 pub returns-clause-matchings : goal.returns-clause-matchings
 returns-clause-matchings g c =
@@ -83,6 +85,6 @@ returns-clause-matchings g c =
     let e = c.args.condition.now in
     let condition = condition_from (now node) (sym (plain_sort cons now node) ∙ ap (λ t. seen_sort cons (seen_term now t)) (sym c.plain_node.ensures) ∙ c.in_ok-term.ensures.value.sorted ∙ when_sort cons tables vars m lawful e c.requires.ready) in
     let off = rw c.in-None.is at c.in_ok-more.ensures in
-    subst (λ ms. GoOn cons vars (g.D.Domain.variables c.args.d.now) m (demand_times (When e)) (λ v w. Demanded c.args.program.now w (When e)) (seen_matchings now ms)) (sym c.new.ensures)
+    subst (λ ms. GoOn (scope_of cons vars (g.D.Domain.variables c.args.d.now)) m (demand_times (When e)) (λ v w. Demanded c.args.program.now w (When e)) (seen_matchings now ms)) (sym c.new.ensures)
     (when_off cons vars (g.D.Domain.variables c.args.d.now) c.args.program.now e m lawful (now node) condition (λ v w a. c.in_ok-term.ensures.value.means v w a ∙ ap (λ t. tree_of v (seen_term now t)) c.plain_node.ensures ∙ plain_tree now v node)
     ((g.met.D.Domain.laws c.evaluate.new.d).known node _ (condition_valid (now node) condition) off))

@@ -2,6 +2,7 @@ use Rattle.std.proofs.Common.{◌≡◌, length, map, take}
 use Rattle.data_value.specs.Nodes.{Extends}
 use Rattle.sort_term.specs.NodeTerms.{seen_term}
 use Rattle.unify.specs.Meets.{seen_matching, AreAllJoined}
+use Rattle.unify.specs.Scopes.{scope_of, change_of}
 use Rattle.unify.proofs.matching.+join.Given as goal
 
 -- the patterns so far are joined with the terms so far
@@ -12,5 +13,5 @@ invariant-join_all-loop-i g l =
       long : length l.terms ≡ length l.patterns;
       extends : Extends (look l.fn.d) (look l.d);
       same_variables : g.D.Domain.variables l.d ≡ g.D.Domain.variables l.fn.d;
-      joined : AreAllJoined l.semantics.cons l.vars (g.D.Domain.variables l.fn.d) (take l.i l.patterns) (map (seen_term (look l.fn.d)) (take l.i l.terms)) (seen_matching (look l.fn.d) l.fn.matching) (seen_matching (look l.d) l.matching);
+      joined : AreAllJoined (scope_of l.semantics.cons l.vars (g.D.Domain.variables l.fn.d)) (take l.i l.patterns) (map (seen_term (look l.fn.d)) (take l.i l.terms)) (change_of (seen_matching (look l.fn.d) l.fn.matching) (seen_matching (look l.d) l.matching));
     }

@@ -12,6 +12,7 @@ use Rattle.unify.specs.Matchings.{seen_matchings, GoOn, ReadsRow, IsRowFor}
 use Rattle.unify.proofs.Carried.{lawful_nodes, matching_stays, going_on_nodes, appended}
 use Rattle.unify.proofs.KeyTests.{is_sorted}
 use Rattle.unify.proofs.GoingOn.{go_on_from, rows_more, no_rows}
+use Rattle.unify.specs.Scopes.{scope_of}
 use Rattle.unify.proofs.rows.any_row.Goals as goal
 
 pub loop-row-init : goal.loop-row-init
@@ -21,7 +22,7 @@ loop-row-init g c =
     record {
       extends = extends-same old;
       same_variables = refl;
-      rows = subst (λ ms. GoOn c.args.semantics.now.cons c.args.vars.now (g.D.Domain.variables c.args.d.now) m (λ i. times i c.args.pattern.now) (λ v w. Any (ReadsRow (old c.args.node.now) c.args.pattern.now v w) []) (seen_matchings old ms)) (sym c.new-matchings.ensures)
+      rows = subst (λ ms. GoOn (scope_of c.args.semantics.now.cons c.args.vars.now (g.D.Domain.variables c.args.d.now)) m (λ i. times i c.args.pattern.now) (λ v w. Any (ReadsRow (old c.args.node.now) c.args.pattern.now v w) []) (seen_matchings old ms)) (sym c.new-matchings.ensures)
           (no_rows c.args.semantics.now.cons c.args.vars.now (g.D.Domain.variables c.args.d.now) c.args.pattern.now (old c.args.node.now) m);
     }
 
@@ -88,19 +89,19 @@ loop-row-preserved g c =
     let key = old c.args.node.now in
     let before = seen_matchings now c.loop-row.matchings in
     let found = seen_matchings next c.in_ok-more.more in
-    let made : GoOn cons vars variables m (λ j. times j p) (λ v w. ReadsRow key p v w r) found =
-    subst (λ s. GoOn cons vars variables m (λ j. times j p) (λ v w. ReadsRow s p v w r) found) same
+    let made : GoOn (scope_of cons vars variables) m (λ j. times j p) (λ v w. ReadsRow key p v w r) found =
+    subst (λ s. GoOn (scope_of cons vars variables) m (λ j. times j p) (λ v w. ReadsRow s p v w r) found) same
     (go_on_from cons vars (g.D.Domain.variables c.loop-row.d) variables (seen_matching now c.args.matching.now) m (λ j. times j p) (λ v w. ReadsRow (now c.args.node.now) p v w r) found c.loop-row.invariant.same_variables kept c.in_ok-more.ensures.matchings) in
     let all = appended now next c.in_ok-more.ensures.extends c.loop-row.matchings c.in_ok-more.more _ (going_on_nodes cons vars variables m (λ j. times j p) _ before c.loop-row.invariant.rows) c.in_ok-append.ensures in
     record {
       extends = extends-both old now next c.loop-row.invariant.extends c.in_ok-more.ensures.extends;
       same_variables = c.in_ok-more.ensures.same_variables ∙ c.loop-row.invariant.same_variables;
-      rows = subst (GoOn cons vars variables m (λ j. times j p) (λ v w. Any (ReadsRow key p v w) (take (i + 1) c.args.rows.now))) (sym all)
+      rows = subst (GoOn (scope_of cons vars variables) m (λ j. times j p) (λ v w. Any (ReadsRow key p v w) (take (i + 1) c.args.rows.now))) (sym all)
           (rows_more cons vars variables p key c.args.rows.now i r m before found c.loop-row-test.true c.row-item.is c.loop-row.invariant.rows made);
     }
 
 pub returns-clause-matchings : goal.returns-clause-matchings
 returns-clause-matchings g c =
     let old = g.D.Domain.look c.args.d.now in
-    subst (λ rs. GoOn c.args.semantics.now.cons c.args.vars.now (g.D.Domain.variables c.args.d.now) (seen_matching old c.args.matching.now) (λ i. times i c.args.pattern.now) (λ v w. Any (ReadsRow (old c.args.node.now) c.args.pattern.now v w) rs) (seen_matchings (g.D.Domain.look c.loop-row.d) c.loop-row.matchings))
+    subst (λ rs. GoOn (scope_of c.args.semantics.now.cons c.args.vars.now (g.D.Domain.variables c.args.d.now)) (seen_matching old c.args.matching.now) (λ i. times i c.args.pattern.now) (λ v w. Any (ReadsRow (old c.args.node.now) c.args.pattern.now v w) rs) (seen_matchings (g.D.Domain.look c.loop-row.d) c.loop-row.matchings))
     (take_all c.loop-row.row-index c.args.rows.now (omega arith)) c.loop-row.invariant.rows

@@ -4,7 +4,9 @@ use Rattle.sort_term.specs.NodeTerms.{seen_term}
 use Rattle.unify.specs.Meets.{seen_matching, IsMatching, RebindsOnlyScalars, Equals}
 use Rattle.unify.specs.Matchings.{seen_matchings, IsOfNodes, GoOn, Supposes, ReadsRow}
 use Rattle.unify.proofs.Carried.{lawful_nodes, matching_stays, condition_valid}
+use Rattle.unify.proofs.KnownEquations.{tells_true}
 use Rattle.unify.proofs.GoingOn.{go_on_from, with_node, with_lawful, row_on, row_off}
+use Rattle.unify.specs.Scopes.{scope_of}
 use Rattle.unify.proofs.rows.row_read.Goals as goal
 
 pub key_test-requires-clause-number : goal.key_test-requires-clause-number
@@ -81,7 +83,7 @@ returns-in-Some-clause-matchings g c =
     let p = c.args.pattern.now in
     let t = seen_term next c.in_ok-term-in-Some.term in
     let ms = seen_matchings (g.D.Domain.look c.joined.new.d) c.in_ok-joined-in-Some.field-0 in
-    row_on cons vars variables p (old c.args.node.now) c.args.row.now m test c.in_ok-test.ensures.test t ms c.in_ok-term-in-Some.ensures.term
+    row_on cons vars variables p (old c.args.node.now) c.args.row.now m test c.in_ok-test.ensures.test (tells_true now (g.D.Domain.variables c.key_test.new.d) (g.met.D.Domain.laws c.key_test.new.d) c.in_ok-test.test c.in_ok-test.ensures.test.condition) t ms c.in_ok-term-in-Some.ensures.term
     (go_on_from cons vars (g.D.Domain.variables c.constant_term.new.d) variables (seen_matching next c.in-Some.more) (with_node cons vars variables m test) (λ i. times i p) (Equals p t) ms (c.in_ok-term-in-Some.ensures.same_variables ∙ c.in_ok-test.ensures.same_variables) stays c.in_ok-joined-in-Some.ensures.matchings)
 
 pub returns-clause-matchings : goal.returns-clause-matchings
@@ -97,5 +99,5 @@ returns-clause-matchings g c =
     let variables = g.D.Domain.variables c.args.d.now in
     let p = c.args.pattern.now in
     let off = rw c.in-None.is at c.in_ok-more.ensures in
-    subst (λ ms. GoOn cons vars variables m (λ i. times i p) (λ v w. ReadsRow (old c.args.node.now) p v w c.args.row.now) (seen_matchings now ms)) (sym c.new.ensures)
+    subst (λ ms. GoOn (scope_of cons vars variables) m (λ i. times i p) (λ v w. ReadsRow (old c.args.node.now) p v w c.args.row.now) (seen_matchings now ms)) (sym c.new.ensures)
     (row_off cons vars variables p (old c.args.node.now) c.args.row.now m test c.in_ok-test.ensures.test ((g.met.D.Domain.laws c.key_test.new.d).known c.in_ok-test.test _ (condition_valid test c.in_ok-test.ensures.test.condition) off))
