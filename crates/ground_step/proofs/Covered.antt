@@ -15,8 +15,10 @@ use Rattle.sort_term.specs.Problems.{IsCut}
 use Rattle.sort_term.specs.NodeTerms.{seen_term, seen_sort}
 use Rattle.sort_term.proofs.Declared.{declares, only_in}
 use Rattle.sort_term.proofs.GroundTerms.{ground_sort, ground_tree}
+use Rattle.unify.specs.Scopes.{scope_of}
 use Rattle.unify.specs.Binds.{IsBound}
-use Rattle.unify.specs.Meets.{AreApart, AreTrue, AreUnified}
+use Rattle.data_value.specs.Truth.{AreTrue}
+use Rattle.unify.specs.Meets.{AreApart, AreUnified}
 use Rattle.unify.proofs.Filled.{filled, filled_agrees, filled_long, agreeing_fits}
 use Rattle.unify.proofs.Lists.{all_mapped}
 use Rattle.ground_step.specs.GroundBinds.{ground_binds, AgreesGround, Restricts}
@@ -35,7 +37,7 @@ module _ {S : Type 0} (sys : System) (item : Cut S) (s : Tree) (checked : IsCut 
   pub apart : AreApart item.pattern (seen_term ground_seen s) → IsTrue false ↔ IsCovered sys.cons item s
   apart a = (λ y. absurd (cc), λ x. absurd (a.never [] x.0 (x.1.pattern ∙ sym (ground_tree [] s))))
 
-  module _ (bs : List (Option Tree)) (equations : List Value) (met : AreUnified sys.cons item.vars [] item.pattern (seen_term ground_seen s) (ground_binds bs) (map ground_seen equations)) where
+  module _ (bs : List (Option Tree)) (equations : List Value) (met : AreUnified (scope_of sys.cons item.vars []) item.pattern (seen_term ground_seen s) (ground_binds bs) (map ground_seen equations)) where
     abbrev AllFlags : Type 0
     AllFlags = All (λ x. x ≡ One (Flag true)) equations
 

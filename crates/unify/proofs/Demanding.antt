@@ -23,7 +23,7 @@ use Rattle.unify.specs.Matchings.{Binds, Together, GoOn, IsReady, BoundBy, AreAf
 use Rattle.unify.proofs.Lists.{all_front}
 use Rattle.unify.proofs.Together.{together_same, together_more, together_none}
 use Rattle.unify.proofs.Anys.{any_none}
-use Rattle.unify.specs.Scopes.{scope_of, run_of}
+use Rattle.unify.specs.Scopes.{scope_of, rule_scope_of}
 
 -- a sum above 0
 sum_cases : (a b : ℕ) → 0 < a + b → (0 < a) ⊎ (0 < b)
@@ -121,7 +121,7 @@ module _ (sys : System) (r : Rule) (checked : IsRule sys.cons sys.tables sys.con
     next_none tables variables = (All-nil (Binds sys.cons r.vars (BoundBy r (k + 1))), together_none variables (λ v w. Any (Fulfils {N = N} v w) [] × Demanded tables w d) (λ v f w x. any_none (Fulfils {N = N} v w) x.0))
 
     -- after all of them
-    pub next_all : (tables : Tables) (variables : List DataSort) (olds news : List (SeenMatching N)) → AreAfter sys r (k + 1) news × Together variables news (λ v w. Any (Fulfils v w) olds × Demanded tables w d) → Next (run_of sys tables variables r) k olds news
+    pub next_all : (tables : Tables) (variables : List DataSort) (olds news : List (SeenMatching N)) → AreAfter sys r (k + 1) news × Together variables news (λ v w. Any (Fulfils v w) olds × Demanded tables w d) → Next (rule_scope_of sys tables variables r) k olds news
     next_all tables variables olds news x = record {
       each = x.0;
       together = together_same variables news (λ v w. Any (Fulfils v w) olds × Demanded tables w d) (λ v w. Any (Fulfils v w) olds × ((q : Demand) → slice_get r.demands k ≡ Some q → Demanded tables w q)) (λ v f w. (
@@ -134,13 +134,13 @@ module _ (sys : System) (r : Rule) (checked : IsRule sys.cons sys.tables sys.con
         same q h = let s : Some d ≡ Some q = sym there ∙ h in cc
 
 -- no demand, and one demand more
-pub all_met_none : {N : Type 0} (sys : System) (tables : Tables) (variables : List DataSort) (r : Rule) (ms : List (SeenMatching N)) → AreAfter sys r 0 ms → AllMet (run_of sys tables variables r) 0 ms ms
+pub all_met_none : {N : Type 0} (sys : System) (tables : Tables) (variables : List DataSort) (r : Rule) (ms : List (SeenMatching N)) → AreAfter sys r 0 ms → AllMet (rule_scope_of sys tables variables r) 0 ms ms
 all_met_none sys tables variables r ms a = record {
   each = a;
   together = record { exact = λ v f w. (λ x. x.0, λ x. (x, All-nil (Demanded tables w))) };
 }
 
-pub all_met_more : {N : Type 0} (sys : System) (tables : Tables) (variables : List DataSort) (r : Rule) (k : ℕ) (first old new : List (SeenMatching N)) → k < length r.demands → AllMet (run_of sys tables variables r) k first old → Next (run_of sys tables variables r) k old new → AllMet (run_of sys tables variables r) (k + 1) first new
+pub all_met_more : {N : Type 0} (sys : System) (tables : Tables) (variables : List DataSort) (r : Rule) (k : ℕ) (first old new : List (SeenMatching N)) → k < length r.demands → AllMet (rule_scope_of sys tables variables r) k first old → Next (rule_scope_of sys tables variables r) k old new → AllMet (rule_scope_of sys tables variables r) (k + 1) first new
 all_met_more {N} sys tables variables r k first old new l a n = record {
   each = n.each;
   together = record {

@@ -30,7 +30,7 @@ use Rattle.unify.specs.Matchings.{seen_matchings, Binds, BoundBy, Reaches, Start
 use Rattle.unify.proofs.Lists.{all_mapped}
 use Rattle.unify.proofs.Anys.{any_none, any_one, any_here, any_left, any_right, any_split, any_more, any_among, any_map}
 use Rattle.unify.proofs.Filled.{filled, filled_agrees, filled_long, agreeing_fits, sort_bound}
-use Rattle.unify.specs.Scopes.{run_of}
+use Rattle.unify.specs.Scopes.{rule_scope_of}
 
 module _ (sys : System) (r : Rule) (checked : IsRule sys.cons sys.tables sys.config r) where
   all_stand : (i : ℕ) → i < length r.vars → BoundBy r (length r.demands) i
@@ -104,7 +104,7 @@ branches_more sys r ms i m bs cs l e a h = record {
     from v t (inr x) = any_right (LeadsTo v t) bs cs ((h.exact v t).1 (any_here (Reaches v r.result t) m [] x))
 
 -- the branches of a rule are those of the matchings in which its head is equal to the configuration and all demands are met
-module _ {N : Type 0} (look : N → Seen N) (variables : List DataSort) (laws : IsLawful look variables) (sys : System) (tables : Tables) (n : ℕ) (r : Rule) (there : slice_get sys.rules n ≡ Some r) (checked : IsRule sys.cons sys.tables sys.config r) (s : Term (Seen N)) (first : List (SeenMatching N)) (ms : List (Matching N)) (started : Started sys variables r s first) (met : AllMet (run_of sys tables variables r) (length r.demands) first (seen_matchings look ms)) (bs : List (SeenBranch N)) (ended : BranchesOf sys r (seen_matchings look ms) bs) where
+module _ {N : Type 0} (look : N → Seen N) (variables : List DataSort) (laws : IsLawful look variables) (sys : System) (tables : Tables) (n : ℕ) (r : Rule) (there : slice_get sys.rules n ≡ Some r) (checked : IsRule sys.cons sys.tables sys.config r) (s : Term (Seen N)) (first : List (SeenMatching N)) (ms : List (Matching N)) (started : Started sys variables r s first) (met : AllMet (rule_scope_of sys tables variables r) (length r.demands) first (seen_matchings look ms)) (bs : List (SeenBranch N)) (ended : BranchesOf sys r (seen_matchings look ms) bs) where
   whole : take (length r.demands) r.demands ≡ r.demands
   whole = take_all (length r.demands) r.demands (omega arith)
 

@@ -60,7 +60,7 @@ module _ {N : Type 0} (cons : List Con) (vars : List Var) (f : N → Seen N) (bi
     equal = subst (λ xs. AreTrue v (map f xs)) (sym none) (All-nil (λ s. s.meaning v ≡ One (Flag true)));
   }
 
-  pub start_unified : (variables : List DataSort) (p : Pattern) (t : Term (Seen N)) (bs : Bound N) (ds : List (Seen N)) → AreJoined (scope_of cons vars variables) p t (change_of Start (record { binds = bs; equations = ds })) → AreUnified cons vars variables p t bs ds
+  pub start_unified : (variables : List DataSort) (p : Pattern) (t : Term (Seen N)) (bs : Bound N) (ds : List (Seen N)) → AreJoined (scope_of cons vars variables) p t (change_of Start (record { binds = bs; equations = ds })) → AreUnified (scope_of cons vars variables) p t bs ds
   start_unified variables p t bs ds j = record {
     clear = j.clear;
     lawful = j.lawful.binds;

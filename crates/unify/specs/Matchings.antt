@@ -25,7 +25,7 @@ use Rattle.unify.specs.declared.matching.Matching.{Matching}
 use Rattle.unify.specs.Binds.{AreValid, IsBound}
 use Rattle.unify.specs.Meets.{SeenMatching, seen_matching, IsMatching, Fulfils, RebindsOnlyScalars, Equals}
 use Rattle.unify.specs.Equations.{with_equation}
-use Rattle.unify.specs.Scopes.{Scope, Run}
+use Rattle.unify.specs.Scopes.{Scope, RuleScope}
 use Rattle.unify.specs.Branches.{SeenBranch, IsBranch, LeadsTo}
 
 -- matchings, with each node seen as all that it is
@@ -105,12 +105,12 @@ pub record Started {N : Type 0} (sys : System) (variables : List DataSort) (r : 
   pub together : Together variables ms (Equals r.head s)
 
 -- matchings that go on from others: in them moreover the demand at place k is met
-pub record Next {N : Type 0} (at : Run) (k : ℕ) (old new : List (SeenMatching N)) : Type 0 where
+pub record Next {N : Type 0} (at : RuleScope) (k : ℕ) (old new : List (SeenMatching N)) : Type 0 where
   pub each : AreAfter at.sys at.rule (k + 1) new
   pub together : Together at.variables new (λ v w. Any (Fulfils v w) old × ((d : Demand) → slice_get at.rule.demands k ≡ Some d → Demanded at.tables w d))
 
 -- matchings that go on from others: in them moreover the first k demands are met
-pub record AllMet {N : Type 0} (at : Run) (k : ℕ) (old new : List (SeenMatching N)) : Type 0 where
+pub record AllMet {N : Type 0} (at : RuleScope) (k : ℕ) (old new : List (SeenMatching N)) : Type 0 where
   pub each : AreAfter at.sys at.rule k new
   pub together : Together at.variables new (λ v w. Any (Fulfils v w) old × All (Demanded at.tables w) (take k at.rule.demands))
 

@@ -4,8 +4,7 @@ use Rattle.data_value.specs.declared.DataSort.{DataSort}
 use Rattle.data_value.specs.declared.Scalar.{Scalar}
 use Rattle.data_value.specs.declared.Value.{Value}
 use Rattle.data_value.specs.Nodes.{Seen, IsValuation}
-use Rattle.data_value.specs.Truth.{IsCondition}
-pub use Rattle.data_value.specs.Truth.{AreTrue}
+use Rattle.data_value.specs.Truth.{IsCondition, AreTrue}
 use Rattle.sort_term.specs.declared.term.Term.{Term}
 use Rattle.sort_term.specs.declared.semantics.Con.{Con}
 use Rattle.sort_term.specs.declared.rule.Var.{Var}
@@ -118,16 +117,16 @@ Answers at p t matching true = AreJoined at p t matching
 Answers at p t matching false = AreApart p t
 
 -- what makes the pattern equal to the term: the values of its variables are those of the binds, and all equations are true
-pub record AreUnified {N : Type 0} (cons : List Con) (vars : List Var) (variables : List DataSort) (p : Pattern) (t : Term (Seen N)) (binds : Bound N) (equations : List (Seen N)) : Type 0 where
+pub record AreUnified {N : Type 0} (at : Scope) (p : Pattern) (t : Term (Seen N)) (binds : Bound N) (equations : List (Seen N)) : Type 0 where
   -- they clash nowhere
   pub clear : ¬ ClashSomewhere p t
   -- exactly the pattern's variables are bound, each to a term of its sort
-  pub lawful : AreBinds cons vars binds
+  pub lawful : AreBinds at.cons at.vars binds
   pub bound : (i : ℕ) → IsBound binds i ↔ (0 < times i p)
   pub conditions : All IsCondition equations
-  pub exact : (v : List Value) → IsValuation variables v → (w : Trees) → (pattern_value w p ≡ tree_of v t) ↔ (Agrees v binds w × AreTrue v equations)
+  pub exact : (v : List Value) → IsValuation at.variables v → (w : Trees) → (pattern_value w p ≡ tree_of v t) ↔ (Agrees v binds w × AreTrue v equations)
 
 -- what an answer of `unify` says
-abbrev pub IsMeet : {N : Type 0} → List Con → List Var → List DataSort → (N → Seen N) → Pattern → Term (Seen N) → Meet N → Type 0
-IsMeet cons vars variables look p t Apart = AreApart p t
-IsMeet cons vars variables look p t (Meets binds equations) = AreUnified cons vars variables p t (seen_binds look binds) (map look equations)
+abbrev pub IsMeet : {N : Type 0} → Scope → (N → Seen N) → Pattern → Term (Seen N) → Meet N → Type 0
+IsMeet at look p t Apart = AreApart p t
+IsMeet at look p t (Meets binds equations) = AreUnified at p t (seen_binds look binds) (map look equations)

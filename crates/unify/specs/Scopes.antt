@@ -17,14 +17,14 @@ abbrev pub scope_of : List Con → List Var → List DataSort → Scope
 scope_of cons vars variables = record { cons = cons; vars = vars; variables = variables }
 
 -- a semantics, its program, the sorts of the domain's variables and one of the rules
-pub record Run : Type 0 where
+pub record RuleScope : Type 0 where
   pub sys : System
   pub tables : Tables
   pub variables : List DataSort
   pub rule : Rule
 
-abbrev pub run_of : System → Tables → List DataSort → Rule → Run
-run_of sys tables variables r = record { sys = sys; tables = tables; variables = variables; rule = r }
+abbrev pub rule_scope_of : System → Tables → List DataSort → Rule → RuleScope
+rule_scope_of sys tables variables r = record { sys = sys; tables = tables; variables = variables; rule = r }
 
 -- what a call changes, before it and after it
 pub record Change (X : Type 0) : Type 0 where

@@ -8,7 +8,7 @@ ghost use Rattle.sort_term.specs.NodeTerms.{seen_term};
 ghost use Rattle.unify.specs.Meets.{seen_matching, Fulfils, Equals};
 ghost use Rattle.unify.specs.Matchings.{seen_matchings, AreAfter, BranchesOf, Next, Started, AllMet, Binds, BoundBy};
 ghost use Rattle.unify.specs.Branches.{IsConfiguration, AreBranches, seen_branches};
-ghost use Rattle.unify.specs.Scopes.{run_of};
+ghost use Rattle.unify.specs.Scopes.{rule_scope_of};
 
 use crate::binds::unbound;
 use crate::branch::{Branch, BranchList};
@@ -95,7 +95,7 @@ fn after_demands<S: Side, D: Domain>(
     ensures extends { Extends (D.look d.old) (D.look d.new) }
     ensures same_variables { D.variables d.new ≡ D.variables d.old }
     ensures matchings { IfOk result
-        (λ ms. AllMet (run_of semantics.now program.now (D.variables d.old) rule.now)
+        (λ ms. AllMet (rule_scope_of semantics.now program.now (D.variables d.old) rule.now)
         (length rule.now.demands) (seen_matchings (D.look d.old) matchings)
         (seen_matchings (D.look d.new) ms)) }
 {
@@ -123,7 +123,7 @@ fn after_demand<S: Side, D: Domain>(
     ensures extends { Extends (D.look d.old) (D.look d.new) }
     ensures same_variables { D.variables d.new ≡ D.variables d.old }
     ensures matchings { IfOk result
-        (λ ms. Next (run_of semantics.now program.now (D.variables d.old) rule.now) place
+        (λ ms. Next (rule_scope_of semantics.now program.now (D.variables d.old) rule.now) place
         (seen_matchings (D.look d.old) matchings.now) (seen_matchings (D.look d.new) ms)) }
 {
     let demand = &rule.demands.as_slice()[place];

@@ -5,6 +5,7 @@ ghost use Rattle.sort_term.specs.Sorted.{pattern_sort};
 ghost use Rattle.sort_term.specs.Rules.{RepeatsOnlyScalars};
 ghost use Rattle.sort_term.specs.NodeTerms.{seen_term, seen_sort};
 ghost use Rattle.unify.specs.Meets.{IsMeet};
+ghost use Rattle.unify.specs.Scopes.{scope_of};
 
 use crate::binds::{Binds, Nodes, unbound};
 use crate::matching::{Matching, join};
@@ -53,7 +54,7 @@ pub fn unify<S: Side, D: Domain>(
     ensures extends { Extends (D.look d.old) (D.look d.new) }
     ensures same_variables { D.variables d.new ≡ D.variables d.old }
     ensures meet { IfOk result
-        (λ m. IsMeet semantics.now.cons vars.now (D.variables d.old) (D.look d.new) head.now
+        (λ m. IsMeet (scope_of semantics.now.cons vars.now (D.variables d.old)) (D.look d.new) head.now
         (seen_term (D.look d.old) term.now) m) }
 {
     let mut matching = Matching {

@@ -2,7 +2,7 @@ use Rattle.std.proofs.Common.{arith, refl, ◌≡◌, ◌<◌, length, sym, subs
 use Rattle.data_value.proofs.Grown.{extends-both, extends-same}
 use Rattle.unify.specs.Matchings.{seen_matchings, AreAfter, AllMet, Next}
 use Rattle.unify.proofs.Demanding.{all_met_none, all_met_more}
-use Rattle.unify.specs.Scopes.{run_of}
+use Rattle.unify.specs.Scopes.{rule_scope_of}
 use Rattle.unify.proofs.branching.after_demands.Goals as goal
 
 pub loop-place-init : goal.loop-place-init
@@ -26,8 +26,8 @@ loop-place-preserved g c =
     let old = seen_matchings (look c.loop-place.d) c.loop-place.found in
     let new = seen_matchings (look c.after_demand.new.d) c.in_ok-found.found in
     let inside : k < length r.demands = (let l : k < length r.demands = omega (arith, c.loop-place-test.true, c.len-place-end.ensures) in l) in
-    let made : Next (run_of sys tables variables r) k old new =
-    subst (λ ms. Next (run_of sys tables variables r) k (seen_matchings (look c.loop-place.d) ms) new) c.as_slice.ensures (subst (λ vs. Next (run_of sys tables vs r) k (seen_matchings (look c.loop-place.d) c.as_slice.result.now) new) c.loop-place.invariant.same_variables c.in_ok-found.ensures.matchings) in
+    let made : Next (rule_scope_of sys tables variables r) k old new =
+    subst (λ ms. Next (rule_scope_of sys tables variables r) k (seen_matchings (look c.loop-place.d) ms) new) c.as_slice.ensures (subst (λ vs. Next (rule_scope_of sys tables vs r) k (seen_matchings (look c.loop-place.d) c.as_slice.result.now) new) c.loop-place.invariant.same_variables c.in_ok-found.ensures.matchings) in
     record {
       extends = extends-both _ _ _ c.loop-place.invariant.extends c.in_ok-found.ensures.extends;
       same_variables = c.in_ok-found.ensures.same_variables ∙ c.loop-place.invariant.same_variables;
@@ -38,4 +38,4 @@ pub returns-clause-matchings : goal.returns-clause-matchings
 returns-clause-matchings g c =
     let r = c.args.rule.now in
     let end : c.loop-place.place ≡ length r.demands = omega (arith, c.len-place-end.ensures, c.loop-place-test.false, c.loop-place.auto.place-end) in
-    subst (λ k. AllMet (run_of c.args.semantics.now c.args.program.now (g.D.Domain.variables c.args.d.now) r) k (seen_matchings (g.D.Domain.look c.args.d.now) c.args.matchings) (seen_matchings (g.D.Domain.look c.loop-place.d) c.loop-place.found)) end c.loop-place.invariant.met
+    subst (λ k. AllMet (rule_scope_of c.args.semantics.now c.args.program.now (g.D.Domain.variables c.args.d.now) r) k (seen_matchings (g.D.Domain.look c.args.d.now) c.args.matchings) (seen_matchings (g.D.Domain.look c.loop-place.d) c.loop-place.found)) end c.loop-place.invariant.met

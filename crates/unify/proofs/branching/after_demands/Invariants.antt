@@ -1,7 +1,7 @@
 use Rattle.std.proofs.Common.{◌≡◌}
 use Rattle.data_value.specs.Nodes.{Extends}
 use Rattle.unify.specs.Matchings.{seen_matchings, AllMet}
-use Rattle.unify.specs.Scopes.{run_of}
+use Rattle.unify.specs.Scopes.{rule_scope_of}
 use Rattle.unify.proofs.branching.after_demands.Given as goal
 
 -- the matchings in which moreover the demands so far are met
@@ -11,5 +11,5 @@ invariant-loop-place g l =
     record {
       extends : Extends (look l.fn.d) (look l.d);
       same_variables : g.D.Domain.variables l.d ≡ g.D.Domain.variables l.fn.d;
-      met : AllMet (run_of l.semantics l.program (g.D.Domain.variables l.fn.d) l.rule) l.place (seen_matchings (look l.fn.d) l.fn.matchings) (seen_matchings (look l.d) l.found);
+      met : AllMet (rule_scope_of l.semantics l.program (g.D.Domain.variables l.fn.d) l.rule) l.place (seen_matchings (look l.fn.d) l.fn.matchings) (seen_matchings (look l.d) l.found);
     }

@@ -6,7 +6,7 @@ use Rattle.sort_term.proofs.StepSorts.{rule_at}
 use Rattle.unify.specs.Branches.{seen_branches}
 use Rattle.unify.specs.Matchings.{seen_matchings, Started, AllMet, BranchesOf}
 use Rattle.unify.proofs.Ending.{are_branches}
-use Rattle.unify.specs.Scopes.{run_of}
+use Rattle.unify.specs.Scopes.{rule_scope_of}
 use Rattle.unify.proofs.branching.branches.Goals as goal
 
 pub returns-clause-branches : goal.returns-clause-branches
@@ -30,6 +30,6 @@ returns-clause-branches g c =
     let ns = c.in_ok-matchings-2.matchings in
     let bs = seen_branches (look c.finished.new.d) c.in_ok-finished.field-0 in
     let started : Started sys variables r s ms = subst (λ t. Started sys variables r (seen_term old t) ms) c.term.ensures c.in_ok-matchings.ensures.matchings in
-    let met : AllMet (run_of sys tables variables r) (length r.demands) ms (seen_matchings now ns) = subst (λ vs. AllMet (run_of sys tables vs r) (length r.demands) ms (seen_matchings now ns)) c.in_ok-matchings.ensures.same_variables c.in_ok-matchings-2.ensures.matchings in
+    let met : AllMet (rule_scope_of sys tables variables r) (length r.demands) ms (seen_matchings now ns) = subst (λ vs. AllMet (rule_scope_of sys tables vs r) (length r.demands) ms (seen_matchings now ns)) c.in_ok-matchings.ensures.same_variables c.in_ok-matchings-2.ensures.matchings in
     let ended : BranchesOf sys r (seen_matchings now ns) bs = subst (λ xs. BranchesOf sys r (seen_matchings now xs) bs) c.as_slice-2.ensures c.in_ok-finished.ensures.branches in
     are_branches now variables laws sys tables n r there (rule_at sys n r c.rules.ensures.valid there) s ms ns started met bs ended
