@@ -5,4 +5,4 @@ use Rattle.rule_text.specs.declared.error.LoadError.TheVariants.{Unread}
 
 -- the answer is `Unread` only where no value fits
 abbrev pub UnreadOnlyIfNone : {X : Type 0} → Result X LoadError → (X → Type 0) → Type 0
-UnreadOnlyIfNone result Fits = IsErrOf result Unread → (x : _) → ¬ Fits x
+UnreadOnlyIfNone result IsValuationOf = IsErrOf result Unread → (x : _) → ¬ IsValuationOf x
