@@ -5,17 +5,26 @@ use Rattle.std.proofs.lemmas.Bool.{lt-ltb, le-ltb, ltb-true, ltb-false, lt-leb, 
 use Rattle.std.proofs.lemmas.List.{length-take-le, length-replicate}
 use Rattle.refute_check.specs.declared.lit.Lit.{Lit}
 use Rattle.bit_gates.specs.declared.builder.Builder.{Builder}
+use Rattle.bit_gates.specs.declared.sums.BitSum.{BitSum}
+use Rattle.bit_gates.specs.declared.sums.Sum.{Sum}
 use Rattle.refute_check.specs.Truth.{lit_true, clause_below, flipped}
 use Rattle.refute_check.proofs.TruthLemmas.{flipped_true}
 use Rattle.data_value.specs.Words.{wrap, signed_rank}
 use Rattle.bit_gates.specs.Bits.{bit, number, constant_lit}
 use Rattle.bit_gates.specs.Grows.{Grows}
 use Rattle.bit_gates.specs.Meaning.{HasLit, IsWord, IsBit}
-use Rattle.bit_gates.specs.Sums.{bit_sum_of, sum_of, IsBitSum, IsSum}
+use Rattle.bit_gates.specs.Sums.{IsBitSum, IsSum}
 use Rattle.bit_gates.proofs.KnownLemmas.{known, bit_same, bit_flipped}
 use Rattle.bit_gates.proofs.WordLemmas.{word_same, number_flips, number_replicate, take_all}
 use Rattle.bit_gates.proofs.RangeLemmas.{clause_below_more, clause_below_append, one_below}
 use Rattle.bit_gates.proofs.NumberLemmas.{number_nil, number_append, number_take, number_below, doubled}
+
+-- a sum of three bits, by its two bits, and a sum of words, by its bits and the one above them
+abbrev pub bit_sum_of : Lit → Lit → BitSum
+bit_sum_of low high = record { low = low; high = high }
+
+abbrev pub sum_of : List Lit → Lit → Sum
+sum_of bits carry = record { bits = bits; carry = carry }
 
 pub sum_none : (b : Builder) (xs ys zs : List Lit) (c : Lit) → zs ≡ [] → HasLit b c → IsSum b (take 0 xs) (take 0 ys) c (sum_of zs c)
 unfolding clause_below

@@ -9,13 +9,6 @@ use Rattle.bit_gates.specs.Bits.{bit, number}
 use Rattle.bit_gates.specs.Grows.{Holds}
 use Rattle.bit_gates.specs.Meaning.{HasLit, HasLits}
 
--- a sum of three bits, by its two bits, and a sum of words, by its bits and the one above them
-abbrev pub bit_sum_of : Lit → Lit → BitSum
-bit_sum_of low high = record { low = low; high = high }
-
-abbrev pub sum_of : List Lit → Lit → Sum
-sum_of bits carry = record { bits = bits; carry = carry }
-
 -- s is the sum of three bits
 pub record IsBitSum (b : Builder) (x y c : Lit) (s : BitSum) : Type 0 where
   pub low : HasLit b s.low

@@ -1,5 +1,6 @@
 use Rattle.std.proofs.Common.{take}
-use Rattle.bit_gates.specs.Sums.{sum_of, IsSum}
+use Rattle.bit_gates.specs.Sums.{IsSum}
+use Rattle.bit_gates.proofs.SumLemmas.{sum_of}
 use Rattle.bit_gates.specs.Grows.{Grows}
 use Rattle.bit_gates.proofs.sums.add_words.Given as goal
 
