@@ -122,15 +122,6 @@ impl MapValue {
             entries,
         })
     }
-
-    /// Whether two maps have the same widths and the same word at every key.
-    pub fn is_same(&self, other: &MapValue) -> bool
-        ensures { IsTrue result ↔ (self.now ≡ other.now) }
-    {
-        self.key_width == other.key_width
-            && self.word_width == other.word_width
-            && same_entries(&self.entries, &other.entries)
-    }
 }
 
 // Two maps are equal exactly where their widths are and the word at every key.
@@ -160,12 +151,6 @@ impl Hash for MapValue {
         self.word_width.hash(state);
         self.entries.hash(state);
     }
-}
-
-fn same_entries(a: &[(u64, u64)], b: &[(u64, u64)]) -> bool
-    ensures { IsTrue result ↔ (a.now ≡ b.now) }
-{
-    a == b
 }
 
 /// The entries with `word` at `key`.
