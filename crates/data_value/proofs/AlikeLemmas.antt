@@ -1,6 +1,5 @@
 -- Nodes that look the same are the same to an operator.
-use Rattle.std.proofs.Common.{◌≡◌, ℕ, ◌+◌, ◌<◌, List, [], ◌∷◌, ◌++◌, length, take, get_or, map, All, IsSome, refl, sym, ap, ◌∙◌, subst, arith}
-use Rattle.std.proofs.lemmas.List.{take_more}
+use Rattle.std.proofs.Common.{◌≡◌, ◌+◌, List, [], ◌∷◌, All, IsSome, refl, sym, ap, ◌∙◌, subst, arith}
 use Rattle.std.proofs.lemmas.List.Elements.{All-nil, All-cons, All-head, All-tail}
 use Rattle.std.proofs.lemmas.List.Sums.{sum_by-cons}
 use Rattle.data_value.specs.declared.Value.{Value}
@@ -62,12 +61,3 @@ module _ {N : Type 0} (f : N → Seen N) where
     knows = λ scalar known. is.knows scalar (all_alike (λ s. IsSome s.known) ms ns (sym e) known);
     small = let size = sizes_alike ns ms e in let small = is.small in omega arith;
   }
-
-  -- one more copy
-  pub alike_more : (ns cs ds : List N) (i : ℕ) (n c : N) → i < length ns → n ≡ get_or ns i n → AreAlike f cs (take i ns) → f c ≡ f n → ds ≡ cs ++ c ∷ [] → AreAlike f ds (take (i + 1) ns)
-  alike_more ns cs ds i n c lt is before same more =
-      ap (map f) more ∙ map_last cs c ∙ ap (λ l. l ++ f c ∷ []) before ∙ ap (λ s. map f (take i ns) ++ s ∷ []) (same ∙ ap f is) ∙ sym (map_last (take i ns) (get_or ns i n)) ∙ ap (map f) (sym (take_more ns i n lt))
-    where
-      map_last : (xs : List N) (x : N) → map f (xs ++ x ∷ []) ≡ map f xs ++ f x ∷ []
-      map_last [] x = refl
-      map_last (y ∷ ys) x = ap (λ l. f y ∷ l) (map_last ys x)

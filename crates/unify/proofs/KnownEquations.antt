@@ -50,12 +50,6 @@ pub tells_true : {N : Type 0} (f : N → Seen N) (sorts : List DataSort) → IsL
 tells_true f sorts laws n ok h v = laws.known n (Flag true) ok.valid (known_is true (f n) h) v
 
 module _ {N : Type 0} (es : List (Seen N)) (s : Seen N) where
-  pub with_known : known_as true s ≡ true → with_equation es s ≡ es
-  with_known h = ap (λ b. if b then es else es ++ s ∷ []) h
-
-  pub with_open : known_as true s ≡ false → with_equation es s ≡ es ++ s ∷ []
-  with_open h = ap (λ b. if b then es else es ++ s ∷ []) h
-
   pub with_all : (P : Seen N → Type 0) → All P es → P s → All P (with_equation es s)
   with_all P all p = elim (known_as true s) as (λ b. All P (if b then es else es ++ s ∷ [])) [ true ↦ all | false ↦ All-push P es s all p ]
 
