@@ -7,14 +7,14 @@ use Rattle.sort_term.specs.declared.rule.Var.{Var}
 use Rattle.sort_term.specs.declared.semantics.Con.{Con}
 use Rattle.sort_term.specs.declared.term.Sort.{Sort}
 use Rattle.sort_term.specs.Tree.{Tree, Trees, value, IsTrueTree}
-use Rattle.sort_term.specs.Sorted.{Fits, IsExprOf, IsTreeOf, tree_sort}
+use Rattle.sort_term.specs.Sorted.{IsValuationOf, IsExprOf, IsTreeOf, tree_sort}
 use Rattle.sort_term.proofs.Sorting.{expr_keeps}
 use Rattle.ground_judge.specs.Ground.{IsGroundPoint, IsOnlyPair}
 
-fits_nothing : (cons : List Con) (vars : List Var) → vars ≡ [] → Fits cons vars []
+fits_nothing : (cons : List Con) (vars : List Var) → vars ≡ [] → IsValuationOf cons vars []
 fits_nothing cons vars e = sym (ap (map (λ x. Some x.sort)) e)
 
-nothing_fits : (cons : List Con) (vars : List Var) (v : Trees) → vars ≡ [] → Fits cons vars v → v ≡ []
+nothing_fits : (cons : List Con) (vars : List Var) (v : Trees) → vars ≡ [] → IsValuationOf cons vars v → v ≡ []
 nothing_fits cons vars [] e f = refl
 nothing_fits cons vars (t ∷ v) e f = let q : map (tree_sort cons) (t ∷ v) ≡ [] = f ∙ ap (map (λ x. Some x.sort)) e in let l : length (map (tree_sort cons) (t ∷ v)) ≡ 0 = ap length q in absurd (cc)
 

@@ -1,6 +1,6 @@
 // What the runs from the two states of a point tell of it.
 ghost use Rattle.std.specs.Prelude.{◌≤◌, IfOk, MatchOption};
-ghost use Rattle.sort_term.specs.Fits.{IsPointOf};
+ghost use Rattle.sort_term.specs.Problems.{IsPointOf};
 ghost use Rattle.ground_judge.specs.Ground.{IsGroundPoint};
 ghost use Rattle.ground_judge.specs.Found.{Finds, FirstEscape, NoEscape};
 

@@ -1,6 +1,6 @@
 // Points without variables.
 ghost use Rattle.std.specs.Prelude.{◌↔◌, All, IfOk, IsTrue};
-ghost use Rattle.sort_term.specs.Fits.{IsPointOf};
+ghost use Rattle.sort_term.specs.Problems.{IsPointOf};
 ghost use Rattle.sort_term.specs.Step.{IsState};
 ghost use Rattle.ground_judge.specs.Ground.{IsGroundPoint, IsOnlyPair};
 

@@ -12,7 +12,7 @@ use Rattle.sort_term.specs.Tree.{Tree, Trees, pattern_value}
 use Rattle.sort_term.specs.Sorted.{pattern_sort}
 use Rattle.sort_term.specs.Step.{IsState}
 use Rattle.sort_term.specs.Cuts.{AllTrue, Covers}
-use Rattle.sort_term.specs.Fits.{IsCut}
+use Rattle.sort_term.specs.Problems.{IsCut}
 use Rattle.sort_term.specs.NodeTerms.{seen_term, seen_sort}
 use Rattle.sort_term.proofs.Agreeing.{fits_long}
 use Rattle.sort_term.proofs.Declared.{declares, only_in}

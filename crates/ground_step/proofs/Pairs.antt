@@ -26,7 +26,7 @@ use Rattle.sort_term.specs.Signature.{is_plain}
 use Rattle.sort_term.specs.Stands.{is_argument, argument_of}
 use Rattle.sort_term.specs.Step.{IsState}
 use Rattle.sort_term.specs.Cuts.{AllTrue}
-use Rattle.sort_term.specs.Fits.{IsPointOf}
+use Rattle.sort_term.specs.Problems.{IsPointOf}
 use Rattle.sort_term.specs.Relation.{Relates, Related}
 use Rattle.sort_term.specs.NodeTerms.{seen_sort}
 use Rattle.sort_term.proofs.Agreeing.{fits_long}

@@ -1,6 +1,6 @@
 // The run by the first rule that applies.
 ghost use Rattle.std.specs.Prelude.{◌≡◌, ◌<◌, ◌↔◌, IfOk, IsTrue, MatchOption, Option};
-ghost use Rattle.sort_term.specs.Fits.{IsProgram};
+ghost use Rattle.sort_term.specs.Problems.{IsProgram};
 ghost use Rattle.sort_term.specs.Runs.{IsStuck, StepsFirst};
 ghost use Rattle.sort_term.specs.Step.{IsState, StepsBy};
 ghost use Rattle.ground_step.specs.Reach.{FirstRunFrom, end_of, run_of};

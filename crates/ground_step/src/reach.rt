@@ -3,7 +3,7 @@ ghost use Rattle.std.specs.Prelude.{◌≡◌, ◌≢◌, ◌≤◌, [], All, If
 ghost use Rattle.sort_term.specs.Step.{IsState, StepsBy};
 ghost use Rattle.sort_term.specs.Cuts.{InCut};
 ghost use Rattle.sort_term.specs.Rules.{IsSemantics};
-ghost use Rattle.sort_term.specs.Fits.{AreCuts, IsProgram};
+ghost use Rattle.sort_term.specs.Problems.{AreCuts, IsProgram};
 ghost use Rattle.ground_step.specs.Steps.{steps_of};
 ghost use Rattle.ground_step.specs.Reach.{Adds, AreExactly, EndsIn, EndsInState, Extends, HaltedFrom, LongFrom, MetFrom, Stops, StopsMoved, run_of, runs_of, with_each};
 

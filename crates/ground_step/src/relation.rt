@@ -2,7 +2,7 @@
 ghost use Rattle.std.specs.Prelude.{◌≡◌, ◌≢◌, ◌<◌, [], All, IfOk, MatchOption, Some, length, map, slice_get};
 ghost use Rattle.sort_term.specs.Tree.{plain_of, value};
 ghost use Rattle.sort_term.specs.Step.{IsState};
-ghost use Rattle.sort_term.specs.Fits.{IsPointOf};
+ghost use Rattle.sort_term.specs.Problems.{IsPointOf};
 ghost use Rattle.sort_term.specs.Relation.{Related};
 ghost use Rattle.ground_step.specs.Binds.{Narrows};
 ghost use Rattle.ground_step.specs.Ready.{IsReady};

@@ -2,7 +2,7 @@
 ghost use Rattle.std.specs.Prelude.{◌↔◌, ◌<◌, All, IfOk, IsTrue, MatchOption, length, option_map};
 ghost use Rattle.sort_term.specs.Step.{IsState};
 ghost use Rattle.sort_term.specs.Cuts.{InCut};
-ghost use Rattle.sort_term.specs.Fits.{AreCuts, IsCut, IsProgram};
+ghost use Rattle.sort_term.specs.Problems.{AreCuts, IsCut, IsProgram};
 ghost use Rattle.ground_step.specs.Steps.{AreSteps, IsCovered, IsTaken, IsTakenAt, StepIs, steps_of, term_of};
 
 use crate::conditions::{all_hold, all_true, is_true};

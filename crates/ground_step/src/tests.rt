@@ -1,6 +1,6 @@
 // Steps, runs and the relation of a small machine, against values by hand.
 ghost use Rattle.std.specs.Prelude.{◌≤◌};
-ghost use Rattle.sort_term.specs.Fits.{AreCuts, IsProgram};
+ghost use Rattle.sort_term.specs.Problems.{AreCuts, IsProgram};
 ghost use Rattle.sort_term.specs.Step.{IsState};
 
 use crate::{

@@ -4,7 +4,7 @@ use Rattle.std.proofs.lemmas.Option.{same_Some}
 use Rattle.sort_term.specs.declared.points.Point.{Point}
 use Rattle.sort_term.specs.declared.points.Points.{Points}
 use Rattle.sort_term.specs.declared.problem.Problem.{Problem}
-use Rattle.sort_term.specs.Fits.{IsProblem}
+use Rattle.sort_term.specs.Problems.{IsProblem}
 use Rattle.sort_term.specs.Step.{Tables}
 use Rattle.sort_term.specs.System.{System}
 use Rattle.sort_term.specs.Verdict.{IsVerdict, Kind}

@@ -4,7 +4,7 @@ use Rattle.rule_text.specs.declared.item.FileKind.TheVariants as file
 use Rattle.rule_text.specs.Text.{IsItemsText}
 use Rattle.sort_term.specs.System.{System}
 use Rattle.sort_term.specs.Step.{Tables}
-use Rattle.sort_term.specs.Fits.{IsProgram}
+use Rattle.sort_term.specs.Problems.{IsProgram}
 
 -- the text is that of no items, so that no table of the semantics has rows
 pub record IsProgramText (s : System) (bytes : List ℕ) (program : Tables) : Type 0 where

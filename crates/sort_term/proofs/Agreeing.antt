@@ -27,10 +27,10 @@ use Rattle.sort_term.specs.declared.rule.RuleExpr.{RuleExpr}
 use Rattle.sort_term.specs.declared.rule.RuleExpr.TheVariants as expr
 use Rattle.sort_term.specs.System.{System}
 use Rattle.sort_term.specs.Tree.{Tree, Trees, no_tree, tree_at, plain_of, pattern_value, value}
-use Rattle.sort_term.specs.Sorted.{tree_sort, Fits}
+use Rattle.sort_term.specs.Sorted.{tree_sort, IsValuationOf}
 use Rattle.sort_term.specs.Stands.{times, times_in, StandsIn, reads, source_reads, demand_reads, let_patterns}
 use Rattle.sort_term.specs.Rules.{IsRule, ReadsBound, AllStandIn}
-use Rattle.sort_term.specs.Fits.{IsCut}
+use Rattle.sort_term.specs.Problems.{IsCut}
 use Rattle.sort_term.specs.Step.{Tables, source_value, table_at, word_in, Demanded, Takes}
 use Rattle.sort_term.specs.Cuts.{Covers}
 use Rattle.sort_term.specs.RunLaws.{OneInstance, OneStep}
@@ -149,10 +149,10 @@ module _ (v w : Trees) where
 past : (v w : Trees) (i : ℕ) → length v ≤ i → length w ≤ i → AgreeAt v w i
 past v w i l m = get_or_past v i no_tree l ∙ sym (get_or_past w i no_tree m)
 
-pub fits_long : (cons : List Con) (vars : List Var) (v : Trees) → Fits cons vars v → length v ≡ length vars
+pub fits_long : (cons : List Con) (vars : List Var) (v : Trees) → IsValuationOf cons vars v → length v ≡ length vars
 fits_long cons vars v h = sym (length-map v (tree_sort cons)) ∙ ap length h ∙ length-map vars (λ (x : Var). Some x.sort)
 
-module _ (cons : List Con) (vars : List Var) (v w : Trees) (fv : Fits cons vars v) (fw : Fits cons vars w) where
+module _ (cons : List Con) (vars : List Var) (v w : Trees) (fv : IsValuationOf cons vars v) (fw : IsValuationOf cons vars w) where
   -- valuations of variables that agree at each of them are equal
   pub same_trees : ((i : ℕ) → i < length vars → AgreeAt v w i) → v ≡ w
   same_trees a =

@@ -15,7 +15,7 @@ use Rattle.sort_term.specs.declared.rule.Pattern.TheVariants as pattern
 use Rattle.sort_term.specs.declared.rule.RuleExpr.{RuleExpr}
 use Rattle.sort_term.specs.declared.rule.RuleExpr.TheVariants as expr
 use Rattle.sort_term.specs.Tree.{Trees, pattern_value}
-use Rattle.sort_term.specs.Sorted.{Fits, var_sort, tree_sort, pattern_sort, expr_sort}
+use Rattle.sort_term.specs.Sorted.{IsValuationOf, var_sort, tree_sort, pattern_sort, expr_sort}
 use Rattle.sort_term.specs.Stands.{times, times_in, reads}
 use Rattle.sort_term.proofs.Each.{Each}
 use Rattle.sort_term.proofs.Equations.{expr_sort-Var, pattern_value-Bind, pattern_value-Con, pattern_sort-Bind, pattern_sort-Con, tree_sort-Con, times-Bind, times-Exact, times-Con, reads-Var, reads-Lit, reads-Op, reads-Con}
@@ -49,7 +49,7 @@ either_true true b h Q f g = f refl
 either_true false b h Q f g = g h
 
 -- a tree of its sort for each variable is a valuation
-pub fits_each : (cons : List Con) (vars : List Var) (v : Trees) → length v ≡ length vars → ((i : ℕ) → i < length vars → Sorts cons vars v i) → Fits cons vars v
+pub fits_each : (cons : List Con) (vars : List Var) (v : Trees) → length v ≡ length vars → ((i : ℕ) → i < length vars → Sorts cons vars v i) → IsValuationOf cons vars v
 fits_each cons [] [] l h = refl
 fits_each cons [] (t ∷ v) l h = absurd (omega arith)
 fits_each cons (x ∷ vars) [] l h = absurd (omega arith)

@@ -22,7 +22,7 @@ use Rattle.sort_term.specs.declared.rule.Pattern.TheVariants as pattern
 use Rattle.sort_term.specs.declared.rule.RuleExpr.{RuleExpr}
 use Rattle.sort_term.specs.declared.rule.RuleExpr.TheVariants as expr
 use Rattle.sort_term.specs.Tree.{Tree, Trees, tree_at, plain_of, pattern_value, value}
-use Rattle.sort_term.specs.Sorted.{has_sort, have_sorts, con_sort, in_front, all_there, data_part, fitted_sort, applied_sort, leaf_sort, var_sort, tree_sort, pattern_sort, expr_sort, Fits}
+use Rattle.sort_term.specs.Sorted.{has_sort, have_sorts, con_sort, in_front, all_there, data_part, fitted_sort, applied_sort, leaf_sort, var_sort, tree_sort, pattern_sort, expr_sort, IsValuationOf}
 use Rattle.sort_term.proofs.Each.{Each}
 use Rattle.sort_term.proofs.Equations.{value-Var, value-Lit, value-Op, value-Con, expr_sort-Var, expr_sort-Lit, expr_sort-Op, expr_sort-Con, pattern_value-Bind, pattern_value-Exact, pattern_value-Con, pattern_sort-Bind, pattern_sort-Exact, pattern_sort-Con, tree_sort-Plain, tree_sort-Con, plain_of-Plain}
 use Rattle.sort_term.proofs.Induction.{pattern_ind, expr_ind, term_ind}
@@ -36,7 +36,7 @@ and_true : (a b : Bool) → a ≡ true → b ≡ true → (a && b) ≡ true
 and_true a b h k = ap (λ x. x && b) h ∙ k
 
 -- a variable's tree is of the variable's sort
-pub var_fits : (cons : List Con) (vars : List Var) (v : Trees) (i : ℕ) (a : Sort) → Fits cons vars v → var_sort vars i ≡ Some a → tree_sort cons (tree_at v i) ≡ Some a
+pub var_fits : (cons : List Con) (vars : List Var) (v : Trees) (i : ℕ) (a : Sort) → IsValuationOf cons vars v → var_sort vars i ≡ Some a → tree_sort cons (tree_at v i) ≡ Some a
 var_fits cons [] v i a f h = absurd (cc)
 var_fits cons (x ∷ vars) [] i a f h = absurd (cc)
 var_fits cons (x ∷ vars) (t ∷ v) zero a f h =
@@ -157,7 +157,7 @@ module _ {A : Type 0} (f : A → Option Sort) (x : A → Value) (is_data : (e : 
       fitted None t m = absurd (cc)
       fitted (Some args) t m = given args (op_sort op args) t refl m
 
-module _ (cons : List Con) (vars : List Var) (v : Trees) (fits : Fits cons vars v) where
+module _ (cons : List Con) (vars : List Var) (v : Trees) (fits : IsValuationOf cons vars v) where
   abbrev KeepsExpr : RuleExpr → Type 0
   KeepsExpr = Keeps (expr_sort cons vars) (λ e. tree_sort cons (value v e))
 

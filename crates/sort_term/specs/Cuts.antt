@@ -5,7 +5,7 @@ use Rattle.sort_term.specs.declared.points.Cut.{Cut}
 use Rattle.sort_term.specs.declared.rule.RuleExpr.{RuleExpr}
 use Rattle.sort_term.specs.System.{System}
 use Rattle.sort_term.specs.Tree.{Tree, Trees, pattern_value, value, IsTrueTree}
-use Rattle.sort_term.specs.Sorted.{Fits}
+use Rattle.sort_term.specs.Sorted.{IsValuationOf}
 use Rattle.sort_term.specs.Step.{Tables, StepsBy}
 use Rattle.sort_term.specs.Runs.{IsMet, IsLong, IsHalted, Succeeds}
 
@@ -15,7 +15,7 @@ AllTrue v whens = All (λ e. IsTrueTree (value v e)) whens
 
 -- an item of the cut covers s under v: its pattern has the value s, and its conditions are true
 pub record Covers {S : Type 0} (cons : List Con) (item : Cut S) (v : Trees) (s : Tree) : Type 0 where
-  pub fits : Fits cons item.vars v
+  pub fits : IsValuationOf cons item.vars v
   pub pattern : pattern_value v item.pattern ≡ s
   pub whens : AllTrue v item.whens
 

@@ -13,7 +13,7 @@ pub mod Names
 pub mod Stands
 pub mod Signature
 pub mod Rules
-pub mod Fits
+pub mod Problems
 pub mod SortLaws
 pub mod PartnerLaws
 pub mod RunLaws

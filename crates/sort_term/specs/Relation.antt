@@ -3,14 +3,14 @@ use Rattle.std.specs.Prelude.{◌≡◌, ℕ, List, [], slice_get, Some}
 use Rattle.sort_term.specs.declared.points.Point.{Point}
 use Rattle.sort_term.specs.declared.problem.Problem.{Problem}
 use Rattle.sort_term.specs.Tree.{Tree, Trees, value}
-use Rattle.sort_term.specs.Sorted.{Fits}
+use Rattle.sort_term.specs.Sorted.{IsValuationOf}
 use Rattle.sort_term.specs.Step.{StepsBy}
 use Rattle.sort_term.specs.Runs.{IsLong, IsHalted, Succeeds}
 use Rattle.sort_term.specs.Cuts.{AllTrue, InCut}
 
 -- v gives each variable of the point a value of its sort, and makes the conditions true; the variables' sorts are data sorts, so no constructor is asked for
 pub record Holds (p : Point) (v : Trees) : Type 0 where
-  pub fits : Fits [] p.vars v
+  pub fits : IsValuationOf [] p.vars v
   pub whens : AllTrue v p.whens
 
 -- (a, b) is a related pair of p under v

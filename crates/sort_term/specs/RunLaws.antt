@@ -9,7 +9,7 @@ use Rattle.sort_term.specs.declared.rule.Rule.{Rule}
 use Rattle.sort_term.specs.System.{System}
 use Rattle.sort_term.specs.Tree.{Tree, Trees}
 use Rattle.sort_term.specs.Rules.{IsRule, IsSemantics}
-use Rattle.sort_term.specs.Fits.{IsCut}
+use Rattle.sort_term.specs.Problems.{IsCut}
 use Rattle.sort_term.specs.Step.{Tables, Takes, StepsBy}
 use Rattle.sort_term.specs.Cuts.{Covers, IsMetIn, IsLongIn}
 use Rattle.sort_term.specs.Verdict.{Kind, IsVerdict}

@@ -114,5 +114,5 @@ pub record IsExprOf (cons : List Con) (vars : List Var) (a : Sort) (e : RuleExpr
   pub is : expr_sort cons vars e ≡ Some a
 
 -- a valuation of variables gives each a tree of its sort
-abbrev pub Fits : List Con → List Var → Trees → Type 0
-Fits cons vars v = map (tree_sort cons) v ≡ map (λ x. Some x.sort) vars
+abbrev pub IsValuationOf : List Con → List Var → Trees → Type 0
+IsValuationOf cons vars v = map (tree_sort cons) v ≡ map (λ x. Some x.sort) vars

@@ -11,7 +11,7 @@ use Rattle.sort_term.specs.declared.rule.Demand.{Demand}
 use Rattle.sort_term.specs.declared.rule.Demand.TheVariants.{Let, When}
 use Rattle.sort_term.specs.System.{System}
 use Rattle.sort_term.specs.Tree.{Tree, Trees, plain_of, pattern_value, value, IsTrueTree}
-use Rattle.sort_term.specs.Sorted.{IsTreeOf, Fits}
+use Rattle.sort_term.specs.Sorted.{IsTreeOf, IsValuationOf}
 
 -- a program has for each table its rows
 abbrev pub Tables : Type 0
@@ -42,7 +42,7 @@ Demanded tables v (When e) = IsTrueTree (value v e)
 
 -- rule instance: under the valuation v the rule takes s to t
 pub record Takes (cons : List Con) (tables : Tables) (r : Rule) (v : Trees) (s t : Tree) : Type 0 where
-  pub fits : Fits cons r.vars v
+  pub fits : IsValuationOf cons r.vars v
   pub head : pattern_value v r.head ≡ s
   pub demands : All (Demanded tables v) r.demands
   pub result : value v r.result ≡ t

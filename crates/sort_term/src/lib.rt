@@ -2,7 +2,7 @@
 #![tactic(auto)]
 
 mod bound;
-mod fits;
+mod problem_checks;
 mod ids;
 mod named;
 mod node_term_laws;
@@ -23,7 +23,7 @@ mod term;
 mod tree;
 
 pub use bound::{all_stand_in, are_bound_in_time, repeats_only_scalars, times_in};
-pub use fits::{
+pub use problem_checks::{
     are_cuts, are_determined, are_points, are_rows, are_whens, has_key, is_cut, is_point,
     is_program, is_row,
 };

@@ -1,4 +1,4 @@
-ghost use Rattle.sort_term.specs.Fits.{IsProblem};
+ghost use Rattle.sort_term.specs.Problems.{IsProblem};
 
 use crate::points::Points;
 use crate::program::Program;

@@ -6,7 +6,7 @@ use Rattle.rule_text.specs.Text.{IsItemsText}
 use Rattle.rule_text.specs.Turns.{InTurn}
 use Rattle.sort_term.specs.declared.points.Points.{Points}
 use Rattle.sort_term.specs.System.{System}
-use Rattle.sort_term.specs.Fits.{AreCuts, ArePoints}
+use Rattle.sort_term.specs.Problems.{AreCuts, ArePoints}
 use Rattle.sync_points.specs.Adds.{nothing, known_of, Adds}
 
 -- cuts and points that pass their checks

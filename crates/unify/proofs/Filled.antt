@@ -16,7 +16,7 @@ use Rattle.sort_term.specs.declared.rule.Var.{Var}
 use Rattle.sort_term.specs.declared.rule.RuleExpr.{RuleExpr}
 use Rattle.sort_term.specs.declared.rule.RuleExpr.TheVariants as expr
 use Rattle.sort_term.specs.Tree.{Tree, Trees, no_tree, tree_at}
-use Rattle.sort_term.specs.Sorted.{var_sort, con_sort, applied_sort, tree_sort, expr_sort, expr_sort_where, Fits}
+use Rattle.sort_term.specs.Sorted.{var_sort, con_sort, applied_sort, tree_sort, expr_sort, expr_sort_where, IsValuationOf}
 use Rattle.sort_term.specs.Stands.{reads}
 use Rattle.sort_term.specs.NodeTerms.{seen_term, seen_sort, tree_of}
 use Rattle.sort_term.proofs.Each.{Each}
@@ -59,7 +59,7 @@ pub filled_long : {N : Type 0} (v : List Value) (bs : Bound N) → length (fille
 filled_long v bs = length-map bs (filled_at v)
 
 -- where all variables are bound, as many trees that agree with their terms are a valuation of them
-pub agreeing_fits : {N : Type 0} (f : N → Seen N) (variables : List DataSort) (cons : List Con) (vars : List Var) (bs : List (Option (Term N))) → IsLawful f variables → AreBinds cons vars (seen_binds f bs) → ((i : ℕ) → i < length vars → IsBound (seen_binds f bs) i) → (v : List Value) → IsValuation variables v → (w : Trees) → length w ≡ length (seen_binds f bs) → Agrees v (seen_binds f bs) w → Fits cons vars w
+pub agreeing_fits : {N : Type 0} (f : N → Seen N) (variables : List DataSort) (cons : List Con) (vars : List Var) (bs : List (Option (Term N))) → IsLawful f variables → AreBinds cons vars (seen_binds f bs) → ((i : ℕ) → i < length vars → IsBound (seen_binds f bs) i) → (v : List Value) → IsValuation variables v → (w : Trees) → length w ≡ length (seen_binds f bs) → Agrees v (seen_binds f bs) w → IsValuationOf cons vars w
 agreeing_fits {N} f variables cons vars bs laws lawful all v fits w long agrees = fits_each cons vars w (long ∙ lawful.long) sorted
   where
     sorted : (i : ℕ) → i < length vars → tree_sort cons (tree_at w i) ≡ var_sort vars i

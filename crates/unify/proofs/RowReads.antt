@@ -19,7 +19,7 @@ use Rattle.sort_term.specs.System.{System}
 use Rattle.sort_term.specs.Tree.{Trees, value, pattern_value}
 use Rattle.sort_term.specs.Sorted.{pattern_sort}
 use Rattle.sort_term.specs.Stands.{times}
-use Rattle.sort_term.specs.Fits.{IsProgram}
+use Rattle.sort_term.specs.Problems.{IsProgram}
 use Rattle.sort_term.specs.Step.{Tables, table_at, word_in, Demanded}
 use Rattle.sort_term.proofs.Equations.{plain_of-Plain}
 use Rattle.unify.specs.Binds.{Agrees}

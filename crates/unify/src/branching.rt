@@ -2,7 +2,7 @@
 ghost use Rattle.std.specs.Prelude.{◌≡◌, ◌↔◌, [], ◌∷◌, ◌+◌, ◌<◌, IfOk, Any, All, List, length, slice_get, Some};
 ghost use Rattle.data_value.specs.declared.Value.{Value};
 ghost use Rattle.data_value.specs.Nodes.{Extends, IsValuation};
-ghost use Rattle.sort_term.specs.Fits.{IsProgram};
+ghost use Rattle.sort_term.specs.Problems.{IsProgram};
 ghost use Rattle.sort_term.specs.Rules.{IsRule};
 ghost use Rattle.sort_term.specs.NodeTerms.{seen_term};
 ghost use Rattle.unify.specs.Meets.{seen_matching, Fulfils, Equals};

@@ -4,7 +4,7 @@ ghost use Rattle.data_value.specs.declared.DataSort.TheVariants.{Bool};
 ghost use Rattle.data_value.specs.Nodes.{Extends};
 ghost use Rattle.sort_term.specs.declared.rule.Demand.TheVariants.{Let, When};
 ghost use Rattle.sort_term.specs.declared.rule.Source.TheVariants.{Expr, Row as RowOf};
-ghost use Rattle.sort_term.specs.Fits.{IsProgram};
+ghost use Rattle.sort_term.specs.Problems.{IsProgram};
 ghost use Rattle.unify.specs.Meets.{seen_matching, IsMatching, Fulfils};
 ghost use Rattle.unify.specs.Matchings.{seen_matchings, IsReady, MeetsDemand};
 ghost use Rattle.unify.specs.Scopes.{scope_of};

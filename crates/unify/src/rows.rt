@@ -7,7 +7,7 @@ ghost use Rattle.sort_term.specs.declared.rule.Source.TheVariants.{Row as RowOf}
 ghost use Rattle.sort_term.specs.declared.term.Sort.TheVariants.{Plain as DataOf};
 ghost use Rattle.sort_term.specs.Sorted.{pattern_sort};
 ghost use Rattle.sort_term.specs.Stands.{times};
-ghost use Rattle.sort_term.specs.Fits.{IsProgram};
+ghost use Rattle.sort_term.specs.Problems.{IsProgram};
 ghost use Rattle.sort_term.specs.NodeTerms.{node_sort};
 ghost use Rattle.unify.specs.Meets.{seen_matching, IsMatching, RebindsOnlyScalars};
 ghost use Rattle.unify.specs.Matchings.{seen_matchings, IsReady, GoOn, MeetsDemand, ReadsRow, IsRowFor};

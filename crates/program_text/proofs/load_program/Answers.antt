@@ -1,5 +1,5 @@
 use Rattle.std.proofs.Common.{rules, ◌∙◌, [], subst, sym}
-use Rattle.sort_term.specs.Fits.{IsProgram}
+use Rattle.sort_term.specs.Problems.{IsProgram}
 use Rattle.rule_text.specs.Text.{IsItemsText}
 use Rattle.rule_text.specs.declared.item.FileKind.TheVariants.{Program}
 use Rattle.program_text.proofs.NoItems.{no_items}

@@ -1,7 +1,7 @@
 // The branches of a small machine's rules, where nodes are values, against values by hand.
 ghost use Rattle.std.specs.Prelude.{IfOk};
 ghost use Rattle.data_value.specs.Ground.{ground_seen};
-ghost use Rattle.sort_term.specs.Fits.{IsProgram};
+ghost use Rattle.sort_term.specs.Problems.{IsProgram};
 ghost use Rattle.sort_term.specs.NodeTerms.{seen_term};
 ghost use Rattle.unify.specs.Branches.{IsConfiguration};
 

@@ -2,7 +2,7 @@ use Rattle.std.proofs.Common.{◌≡◌, ℕ, length, List, Option, Some, None, 
 use Rattle.std.proofs.lemmas.List.{length-replicate}
 use Rattle.sort_term.specs.Tree.{Tree, value}
 use Rattle.sort_term.specs.Cuts.{AllTrue}
-use Rattle.sort_term.specs.Fits.{IsPointOf}
+use Rattle.sort_term.specs.Problems.{IsPointOf}
 use Rattle.sort_term.proofs.Standing.{get-some}
 use Rattle.ground_step.proofs.Lists.{all_here}
 use Rattle.ground_step.proofs.Pairs.{left_within, right_within, left_apart, right_apart, left_ready, right_ready, whens_ready, values_bound, pair_apart, only_fit, relation_none, relation_some}

@@ -1,7 +1,7 @@
 use Rattle.std.proofs.Common.{◌≡◌, true, false, sym, ◌∙◌, subst}
 use Rattle.sort_term.specs.declared.term.Sort.TheVariants.{Own}
 use Rattle.sort_term.specs.Sorted.{IsExprOf}
-use Rattle.sort_term.proofs.fits.is_point.Goals as goal
+use Rattle.sort_term.proofs.problem_checks.is_point.Goals as goal
 
 pub returns-else-are_configs : goal.returns-else-are_configs
 returns-else-are_configs c = (

@@ -1,6 +1,6 @@
 use Rattle.std.proofs.Common.{◌≡◌, ◌||◌, IsTrue, true, false, sym, ◌∙◌, below_more}
 use Rattle.sort_term.specs.Stands.{is_argument}
-use Rattle.sort_term.proofs.fits.are_determined.Goals as goal
+use Rattle.sort_term.proofs.problem_checks.are_determined.Goals as goal
 
 pub returns-then-not-is_determined : goal.returns-then-not-is_determined
 returns-then-not-is_determined c = (

@@ -1,7 +1,7 @@
 use Rattle.std.proofs.Common.{◌↔◌, IsTrue, subst, ◌∙◌}
 use Rattle.sort_term.specs.declared.term.Sort.TheVariants.{Own}
 use Rattle.sort_term.specs.Sorted.{IsExprOf}
-use Rattle.sort_term.proofs.fits.is_config.Goals as goal
+use Rattle.sort_term.proofs.problem_checks.is_config.Goals as goal
 
 pub returns : goal.returns
 returns g c =

@@ -1,7 +1,7 @@
 use Rattle.std.proofs.Common.{◌≡◌, true, false, refl, sym, ap, ◌∙◌}
 use Rattle.sort_term.specs.declared.program.Row.{Row}
 use Rattle.sort_term.proofs.Distinct.{distinct-not, distinct-more, distinct-all, any-key, key-any}
-use Rattle.sort_term.proofs.fits.keys_are_distinct.Goals as goal
+use Rattle.sort_term.proofs.problem_checks.keys_are_distinct.Goals as goal
 
 pub returns-then-has_key : goal.returns-then-has_key
 returns-then-has_key c = (

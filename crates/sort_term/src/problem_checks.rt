@@ -4,7 +4,7 @@ ghost use Rattle.std.specs.List.{list_any};
 ghost use Rattle.sort_term.specs.declared.term.Sort.TheVariants.{Own};
 ghost use Rattle.sort_term.specs.Sorted.{IsExprOf};
 ghost use Rattle.sort_term.specs.Stands.{is_argument};
-ghost use Rattle.sort_term.specs.Fits.{IsRow, AreRows, HaveRows, IsProgram, AreWhens, IsCut, AreCuts, AreDetermined, IsPointOf, ArePoints};
+ghost use Rattle.sort_term.specs.Problems.{IsRow, AreRows, HaveRows, IsProgram, AreWhens, IsCut, AreCuts, AreDetermined, IsPointOf, ArePoints};
 ghost use Rattle.sort_term.specs.Rules.{RepeatsOnlyScalars, AllStandIn};
 
 use crate::bound::{all_stand_in, repeats_only_scalars};

@@ -1,7 +1,7 @@
 use Rattle.std.proofs.Common.{arith, ◌<◌, ◌≤◌, ◌^◌}
 use Rattle.std.proofs.Math.Nat.{pow-le-pow_right}
 use Rattle.std.proofs.lemmas.Bool.Decides.{nat_tests}
-use Rattle.sort_term.proofs.fits.is_key.Goals as goal
+use Rattle.sort_term.proofs.problem_checks.is_key.Goals as goal
 
 pub returns-then-width-ge64 : goal.returns-then-width-ge64
 returns-then-width-ge64 c =
