@@ -577,7 +577,7 @@ fn maps(rt: HostRuntime) -> Result<(), Fail> {
     let alloc = rt.alloc();
     let zeros = MapValue::zeros(alloc, 8, 8);
     assert!(rt; zeros.is_empty() && zeros.get(3) == 0);
-    assert!(rt; zeros.put(alloc, 3, 0)?.is_same(&zeros));
+    assert!(rt; zeros.put(alloc, 3, 0)? == zeros);
     let map = zeros
         .put(alloc, 3, 5)?
         .put(alloc, 1, 7)?
@@ -587,7 +587,7 @@ fn maps(rt: HostRuntime) -> Result<(), Fail> {
     assert_eq!(rt; map.len(), 2);
     assert_eq!(rt; map.entry(0), (1, 7));
     assert_eq!(rt; map.entry(1), (3, 5));
-    assert!(rt; map.copy(alloc)?.is_same(&map) && !map.is_same(&zeros));
+    assert!(rt; map.copy(alloc)? == map && map != zeros);
     Ok(())
 }
 
