@@ -1,6 +1,7 @@
 -- What a tree determines of the variables of a term that has it as its value.
 use Rattle.std.proofs.Common.{arith, ◌≡◌, ℕ, zero, suc, ◌+◌, ◌<◌, ◌≤◌, Bool, true, false, ◌||◌, IsTrue, List, [], ◌∷◌, ◌++◌, length, map, take, get_or, slice_get, Option, Some, None, All, refl, sym, ap, ◌∙◌, subst, ◌⊎◌, inl, inr}
 use Rattle.std.specs.List.{list_any}
+use Rattle.std.proofs.lemmas.Bool.{or_left, or_right}
 use Rattle.std.proofs.lemmas.Bool.Decides.{Decides-eqb}
 use Rattle.std.proofs.lemmas.List.{take_more, length-take-le, map-append}
 use Rattle.std.proofs.lemmas.Option.{slice_get_cases, slice_get_within}
@@ -22,6 +23,7 @@ use Rattle.sort_term.specs.Sorted.{tree_sort, expr_sort}
 use Rattle.sort_term.specs.Stands.{reads, argument_of}
 use Rattle.sort_term.proofs.Each.{Each}
 use Rattle.sort_term.proofs.Agreeing.{con_same}
+use Rattle.sort_term.proofs.Arguments.{op_no_argument}
 use Rattle.sort_term.proofs.Equations.{value-Var, value-Con, expr_sort-Var, expr_sort-Con, tree_sort-Con, reads-Var, reads-Con, argument_of-Var, argument_of-Lit, argument_of-Op, argument_of-Con}
 use Rattle.sort_term.proofs.Induction.{expr_ind}
 use Rattle.ground_step.specs.GroundBinds.{AgreesGround, Restricts}
@@ -31,14 +33,6 @@ use Rattle.ground_step.proofs.Bound.{agrees_at, fill, fill_agrees, fill_at, part
 use Rattle.ground_step.proofs.Lists.{last_same}
 use Rattle.sort_term.proofs.Parts.{con_parts}
 use Rattle.sort_term.proofs.PartSorts.{op_parts_of}
-
-or_left : (a b : Bool) → IsTrue a → IsTrue (a || b)
-or_left true b h = refl
-or_left false b h = absurd (cc)
-
-pub or_right : (a b : Bool) → IsTrue b → IsTrue (a || b)
-or_right true b h = refl
-or_right false b h = h
 
 -- what is read in one of several expressions
 any_at : (i : ℕ) (es : List RuleExpr) (k : ℕ) (d : RuleExpr) → k < length es → IsTrue (reads i (get_or es k d)) → IsTrue (list_any (λ part. part) (map (reads i) es))
@@ -86,44 +80,10 @@ first_of true b h e = refl
 first_of false b h e = absurd (let q : false ≡ true = sym e ∙ h in cc)
 
 module _ (cons : List Con) (vars : List Var) (i : ℕ) where
-  -- an expression of a sort of data has no constructor, so no argument of one
-  abbrev NoArgument : RuleExpr → Type 0
-  NoArgument e = (d : DataSort) → expr_sort cons vars e ≡ Some (Plain d) → (argument_of i e).1 ≡ false
-
-  each_no : (es : List RuleExpr) → Each NoArgument es → (ds : List DataSort) → map (expr_sort cons vars) es ≡ map (λ d. Some (Plain d)) ds → list_any (λ part. part.1) (map (argument_of i) es) ≡ false
-  each_no [] n ds h = refl
-  each_no (e ∷ es) n [] h = absurd (cc)
-  each_no (e ∷ es) n (d ∷ ds) h =
-      let q : expr_sort cons vars e ≡ Some (Plain d) = cc in
-      let q' : map (expr_sort cons vars) es ≡ map (λ x. Some (Plain x)) ds = cc in
-      ap (λ b. b || list_any (λ part. part.1) (map (argument_of i) es)) (n.0 d q) ∙ each_no es n.1 ds q'
-
-  no_con : (k : ConId) (es : List RuleExpr) → NoArgument (expr.Con k es)
-  no_con k es d h =
-      let p = con_parts (slice_get cons k.0) (map (expr_sort cons vars) es) (Plain d) (sym (expr_sort-Con cons vars k es) ∙ h) in
-      let e : Own p.con.sort ≡ Plain d = p.makes in
-      absurd (cc)
-
-  no_op : (op : Op) (es : List RuleExpr) → Each NoArgument es → (s : Sort) → expr_sort cons vars (expr.Op op es) ≡ Some s → (argument_of i (expr.Op op es)).1 ≡ false
-  no_op op es n s h =
-      let p = op_parts_of cons vars op es s h in
-      ap (λ (x : Bool × Bool). x.1) (argument_of-Op i op es) ∙ each_no es n p.args p.sorts
-
-  no_argument : (e : RuleExpr) → NoArgument e
-  no_argument = expr_ind NoArgument
-      (λ j d h. ap (λ (x : Bool × Bool). x.1) (argument_of-Var i j))
-      (λ x d h. ap (λ (y : Bool × Bool). y.1) (argument_of-Lit i x))
-      (λ op es n d h. no_op op es n (Plain d) h)
-      (λ k es n. no_con k es)
-
-  each_no_argument : (es : List RuleExpr) → Each NoArgument es
-  each_no_argument [] = tt
-  each_no_argument (e ∷ es) = (no_argument e, each_no_argument es)
-
   pub op_no_part : (op : Op) (es : List RuleExpr) (s : Sort) → expr_sort cons vars (expr.Op op es) ≡ Some s → ¬ IsTrue (is_part i (expr.Op op es))
   op_no_part op es s h t =
       let a : (argument_of i (expr.Op op es)).0 ≡ false = ap (λ (x : Bool × Bool). x.0) (argument_of-Op i op es) in
-      let b = no_op op es (each_no_argument es) s h in
+      let b = op_no_argument cons vars i op es s h in
       let q : false ≡ true = sym b ∙ second_of (argument_of i (expr.Op op es)).0 (argument_of i (expr.Op op es)).1 t a in
       cc
 

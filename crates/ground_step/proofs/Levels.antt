@@ -5,14 +5,10 @@ use Rattle.std.proofs.lemmas.List.{length_push, nil_from_length}
 use Rattle.std.proofs.lemmas.List.Elements.{All-nil, All-push}
 use Rattle.sort_term.specs.Tree.{Tree}
 use Rattle.sort_term.specs.Runs.{reached, IsRun, IsStuck, IsClear, IsMet, IsLong, IsHalted}
-use Rattle.sort_term.proofs.RunLemmas.{Pushed, pushed, run_push, run_front, met_front}
+use Rattle.sort_term.proofs.RunLemmas.{some_pushed, run_push, run_front, met_front}
 use Rattle.ground_step.specs.Reach.{StartedRun, end_of, AreExactly, From, OneStepMore, Stops, StopsMoved}
 use Rattle.unify.proofs.Lists.{all_front}
 use Rattle.ground_step.proofs.Exactly.{exactly_contains}
-
-some_pushed : {X : Type 0} (xs : List X) (k : ℕ) → length xs ≡ k + 1 → Pushed xs
-some_pushed [] k e = absurd (omega arith)
-some_pushed (x ∷ xs) k e = pushed x xs
 
 module _ (Steps : ℕ → Tree → Tree → Type 0) (In : Tree → Type 0) (s : Tree) where
   abbrev pub LongAfter : ℕ → StartedRun → Type 0

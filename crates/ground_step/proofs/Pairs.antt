@@ -1,7 +1,7 @@
 -- A point and a pair of states: what the walks over its terms say of the relation.
 use Rattle.std.proofs.Common.{rules, arith, ◌≡◌, ℕ, zero, suc, ◌+◌, ◌<◌, ◌≤◌, Bool, true, false, ◌||◌, IsTrue, List, [], ◌∷◌, ◌++◌, length, map, take, get_or, slice_get, Option, Some, None, IsSome, All, refl, sym, ap, ◌∙◌, subst, ◌⊎◌, inl, inr}
 use Rattle.std.specs.Prelude.{replicate}
-use Rattle.std.proofs.lemmas.Bool.{cases_lt}
+use Rattle.std.proofs.lemmas.Bool.{cases_lt, or_right}
 use Rattle.std.proofs.lemmas.List.{length-map, length-replicate, map-append, take_more}
 use Rattle.std.proofs.lemmas.List.Elements.{All-head, All-tail}
 use Rattle.std.proofs.lemmas.Option.{slice_get_within, get_or_from_slice_get}
@@ -43,11 +43,8 @@ use Rattle.sort_term.proofs.PartSorts.{op_parts_of}
 use Rattle.unify.specs.Binds.{AreBinds}
 use Rattle.unify.proofs.Evaluated.{bound_seen}
 use Rattle.sort_term.proofs.Declared.{declares, fits_each}
-use Rattle.ground_step.proofs.Determined.{or_right, stays_known}
-
-either_true : (a b : Bool) → IsTrue (a || b) → IsTrue a ⊎ IsTrue b
-either_true true b h = inl refl
-either_true false b h = inr h
+use Rattle.sort_term.proofs.Arguments.{either_true}
+use Rattle.ground_step.proofs.Determined.{stays_known}
 
 -- a tree of a sort of data is a value, and of that sort whatever the constructors
 module _ (cons : List Con) where

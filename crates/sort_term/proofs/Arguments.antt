@@ -28,7 +28,7 @@ use Rattle.sort_term.proofs.Induction.{expr_ind}
 use Rattle.sort_term.proofs.Parts.{con_parts}
 use Rattle.sort_term.proofs.PartSorts.{op_parts_of}
 
-either_true : (a b : Bool) → IsTrue (a || b) → IsTrue a ⊎ IsTrue b
+pub either_true : (a b : Bool) → IsTrue (a || b) → IsTrue a ⊎ IsTrue b
 either_true true b h = inl refl
 either_true false b h = inr h
 

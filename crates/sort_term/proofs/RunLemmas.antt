@@ -15,7 +15,7 @@ pub pushed : {X : Type 0} (x : X) (xs : List X) → Pushed (x ∷ xs)
 pushed x [] = record { front = []; back = x; is = refl }
 pushed x (y ∷ ys) = let p = pushed y ys in record { front = x ∷ p.front; back = p.back; is = ap (λ zs. x ∷ zs) p.is }
 
-some_pushed : {X : Type 0} (xs : List X) (k : ℕ) → length xs ≡ k + 1 → Pushed xs
+pub some_pushed : {X : Type 0} (xs : List X) (k : ℕ) → length xs ≡ k + 1 → Pushed xs
 some_pushed [] k e = absurd (omega arith)
 some_pushed (x ∷ xs) k e = pushed x xs
 
