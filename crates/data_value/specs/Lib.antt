@@ -10,6 +10,7 @@ pub mod Nodes
 pub mod Views
 pub mod ValueTests
 pub mod Ground
+pub mod GroundLawful
 pub mod MapKeys
 pub mod NodeLaws
 pub mod Truth

@@ -1,4 +1,5 @@
--- Maps as keys of a hash table: the test for equal maps, and what a map feeds a hasher.
+-- Maps as keys of a hash table: the test for equal maps, and what a map feeds a hasher. That the test is an equivalence, and that
+-- equal maps feed the same, stands here since the laws of an impl may cite no file of proofs.
 use Rattle.std.specs.Prelude.{ℕ, ◌++◌, Bool, ◌&&◌, ◌==◌}
 use Rattle.std.specs.Cmp.{IsEquivalence, nat_eq_equiv, and_equiv, on_equiv}
 use Rattle.std.specs.Cmp.Lexicographic.{pointwise, lists_equiv}

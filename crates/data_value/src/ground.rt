@@ -1,6 +1,7 @@
 //! The domain whose nodes are values.
 ghost use Rattle.std.specs.Prelude.{[]};
-ghost use Rattle.data_value.specs.Ground.{ground_seen, ground-laws};
+ghost use Rattle.data_value.specs.Ground.{ground_seen};
+ghost use Rattle.data_value.specs.GroundLawful.{ground-laws};
 
 use crate::{DataSort, Domain, NoMemory, Op, Scalar, Value, apply_value, copy_value, value_sort};
 use std::alloc::Global;

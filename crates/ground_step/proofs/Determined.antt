@@ -5,14 +5,12 @@ use Rattle.std.proofs.lemmas.Bool.{or_left, or_right}
 use Rattle.std.proofs.lemmas.Bool.Decides.{Decides-eqb}
 use Rattle.std.proofs.lemmas.List.{take_more, length-take-le, map-append}
 use Rattle.std.proofs.lemmas.Option.{slice_get_cases, slice_get_within}
-use Rattle.data_value.specs.declared.DataSort.{DataSort}
 use Rattle.data_value.specs.declared.Op.{Op}
 use Rattle.data_value.specs.declared.Scalar.TheVariants.{Flag}
 use Rattle.data_value.specs.declared.Value.{Value}
 use Rattle.data_value.specs.declared.Value.TheVariants.{One}
 use Rattle.sort_term.specs.declared.ids.ConId.{ConId}
 use Rattle.sort_term.specs.declared.term.Sort.{Sort}
-use Rattle.sort_term.specs.declared.term.Sort.TheVariants.{Own, Plain}
 use Rattle.sort_term.specs.declared.term.Term.TheVariants as term
 use Rattle.sort_term.specs.declared.semantics.Con.{Con}
 use Rattle.sort_term.specs.declared.rule.Var.{Var}
@@ -21,18 +19,15 @@ use Rattle.sort_term.specs.declared.rule.RuleExpr.TheVariants as expr
 use Rattle.sort_term.specs.Tree.{Tree, Trees, no_tree, tree_at, value}
 use Rattle.sort_term.specs.Sorted.{tree_sort, expr_sort}
 use Rattle.sort_term.specs.Stands.{reads, argument_of}
-use Rattle.sort_term.proofs.Each.{Each}
 use Rattle.sort_term.proofs.Agreeing.{con_same}
 use Rattle.sort_term.proofs.Arguments.{op_no_argument}
 use Rattle.sort_term.proofs.Equations.{value-Var, value-Con, expr_sort-Var, expr_sort-Con, tree_sort-Con, reads-Var, reads-Con, argument_of-Var, argument_of-Lit, argument_of-Op, argument_of-Con}
-use Rattle.sort_term.proofs.Induction.{expr_ind}
 use Rattle.ground_step.specs.GroundBinds.{AgreesGround, Restricts}
 use Rattle.ground_step.specs.Ready.{IsKnown}
 use Rattle.ground_step.specs.Fit.{ReadsWithin, is_part, is_part_of, Determines, DeterminesAll}
 use Rattle.ground_step.proofs.Bound.{agrees_at, fill, fill_agrees, fill_at, parts_of}
 use Rattle.ground_step.proofs.Lists.{last_same}
 use Rattle.sort_term.proofs.Parts.{con_parts}
-use Rattle.sort_term.proofs.PartSorts.{op_parts_of}
 
 -- what is read in one of several expressions
 any_at : (i : ℕ) (es : List RuleExpr) (k : ℕ) (d : RuleExpr) → k < length es → IsTrue (reads i (get_or es k d)) → IsTrue (list_any (λ part. part) (map (reads i) es))

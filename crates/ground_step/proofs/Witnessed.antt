@@ -1,14 +1,13 @@
 -- What a failure that witnesses a kind says of its point.
-use Rattle.std.proofs.Common.{◌≡◌, ℕ, [], ap, sym, ◌∙◌, subst}
+use Rattle.std.proofs.Common.{◌≡◌, ℕ, ap, sym, ◌∙◌, subst}
 use Rattle.sort_term.specs.declared.problem.Problem.{Problem}
-use Rattle.sort_term.specs.Tree.{Tree}
 use Rattle.sort_term.specs.Runs.{reached, IsLong, IsHalted}
 use Rattle.sort_term.specs.Relation.{Side, of_side, IsStateOf, StepsOf, InCutOf, RightFails, LeftFails}
-use Rattle.sort_term.specs.Simulation.{Test, void, outside, long, halted, HasTest}
-use Rattle.sort_term.specs.Verdict.{Kind, ungrounded, unmatched, refines, AtPoint}
+use Rattle.sort_term.specs.Simulation.{void, outside, long, halted, HasTest}
+use Rattle.sort_term.specs.Verdict.{Kind, unmatched, refines, AtPoint}
 use Rattle.ground_step.specs.declared.verdict.Failure.{Failure}
 use Rattle.ground_step.specs.declared.verdict.Verdict.TheVariants as verdict
-use Rattle.ground_step.specs.Shows.{Witness, IsRight, reached_tree, side_of, start_of}
+use Rattle.ground_step.specs.Shows.{Witness, reached_tree, side_of, start_of}
 use Rattle.ground_step.specs.VerdictLaws.{WitnessedTestsHold, WitnessedRightsFail, WitnessedLeftsFail, FirstTestsShow, FirstRightsShow, FirstLeftsShow, RightVerdictsAreVerdicts}
 
 -- the point of the kind is that of the failure

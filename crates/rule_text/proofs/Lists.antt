@@ -1,5 +1,5 @@
 -- Lists of forms and what each of them writes, as loops make them.
-use Rattle.std.proofs.Common.{◌≡◌, ℕ, zero, suc, ◌+◌, ◌≤◌, ◌<◌, List, [], ◌∷◌, ◌++◌, map, take, get_or, length, All, Bool, true, false, ◌&&◌, refl, sym, ◌∙◌, ap, subst, arith}
+use Rattle.std.proofs.Common.{◌≡◌, ℕ, zero, suc, ◌+◌, ◌≤◌, ◌<◌, List, [], ◌∷◌, ◌++◌, map, take, get_or, length, All, Bool, true, ◌&&◌, sym, ◌∙◌, ap, subst, arith}
 use Rattle.std.specs.List.{list_all, AllPass}
 use Rattle.std.proofs.lemmas.List.{map_more, map-append, take_all}
 use Rattle.std.proofs.lemmas.List.Elements.{All-push, All-head, All-tail}

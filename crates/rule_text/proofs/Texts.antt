@@ -1,5 +1,5 @@
 -- A text has at most one list of items, and what has none is refused.
-use Rattle.std.proofs.Common.{◌≡◌, ℕ, List, length, subst, sym}
+use Rattle.std.proofs.Common.{◌≡◌, ℕ, List, subst}
 use Rattle.sexp_text.specs.declared.form.Form.{Form}
 use Rattle.sexp_text.specs.Text.{IsText}
 use Rattle.sexp_text.specs.Faults.{IsFirstFault}

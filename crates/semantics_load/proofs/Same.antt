@@ -1,11 +1,10 @@
 -- What an item writes is told by it and by what is known before it.
-use Rattle.std.proofs.Common.{◌≡◌, ℕ, List, [], ◌∷◌, map, Option, Some, None, refl, sym, ap, ◌∙◌, subst}
+use Rattle.std.proofs.Common.{◌≡◌, ℕ, List, sym, ap, ◌∙◌, subst}
 use Rattle.std.specs.List.{AllZip}
 use Rattle.std.proofs.lemmas.Option.{same_Some}
 use Rattle.rule_text.specs.declared.item.RawDemand.{RawDemand}
 use Rattle.rule_text.specs.declared.item.RawDemand.TheVariants as written
 use Rattle.rule_text.specs.declared.item.RawSort.{RawSort}
-use Rattle.rule_text.specs.declared.item.RawVar.{RawVar}
 use Rattle.rule_text.specs.declared.item.RawTree.{RawTree}
 use Rattle.rule_text.specs.declared.item.Item.{Item}
 use Rattle.rule_text.specs.declared.item.Item.TheVariants.{Sort, Con, Config, Rule, Cut, Point}
@@ -23,7 +22,7 @@ use Rattle.sort_term.specs.System.{System}
 use Rattle.name_resolution.specs.Known.{Vocabulary}
 use Rattle.name_resolution.specs.Written.{IsPatternText, IsExpressionText, AreVariablesText}
 use Rattle.name_resolution.proofs.Unique.{one_pattern, one_expression, one_list_of_variables, same_values}
-use Rattle.semantics_load.specs.Declares.{Declared, nothing, known_in, with_sort, with_con, with_config, with_rule, IsConText, IsDemandText, RawRule, raw_rule, IsRuleText, Declares}
+use Rattle.semantics_load.specs.Declares.{Declared, nothing, known_in, with_con, with_config, with_rule, IsConText, IsDemandText, RawRule, raw_rule, IsRuleText, Declares}
 use Rattle.semantics_load.specs.Text.{Makes, AreItemsOf, IsSemanticsText}
 use Rattle.rule_text.specs.Turns.{InTurn}
 use Rattle.rule_text.proofs.Turns.{same_turns}

@@ -1,5 +1,5 @@
 -- Variables that are direct arguments of constructors: what an expression's value tells of them.
-use Rattle.std.proofs.Common.{◌≡◌, ℕ, ◌<◌, Bool, true, false, ◌||◌, IsTrue, List, [], ◌∷◌, length, map, get_or, slice_get, Some, All, refl, sym, ap, ◌∙◌, subst, ◌⊎◌, inl, inr}
+use Rattle.std.proofs.Common.{◌≡◌, ℕ, Bool, true, false, ◌||◌, IsTrue, List, [], ◌∷◌, map, slice_get, Some, refl, sym, ap, ◌∙◌, subst, ◌⊎◌, inl, inr}
 use Rattle.std.specs.List.{list_any}
 use Rattle.std.proofs.lemmas.Bool.Decides.{Decides-eqb}
 use Rattle.std.proofs.lemmas.Option.{slice_get_within, get_or_from_slice_get}
@@ -13,13 +13,10 @@ use Rattle.sort_term.specs.declared.semantics.Con.{Con}
 use Rattle.sort_term.specs.declared.rule.Var.{Var}
 use Rattle.sort_term.specs.declared.rule.RuleExpr.{RuleExpr}
 use Rattle.sort_term.specs.declared.rule.RuleExpr.TheVariants as expr
-use Rattle.sort_term.specs.declared.points.Point.{Point}
-use Rattle.sort_term.specs.declared.problem.Problem.{Problem}
-use Rattle.sort_term.specs.Tree.{Tree, Trees, value}
+use Rattle.sort_term.specs.Tree.{Trees, value}
 use Rattle.sort_term.specs.Sorted.{expr_sort}
 use Rattle.sort_term.specs.Stands.{argument_of, is_argument}
 use Rattle.sort_term.specs.Problems.{IsPointOf}
-use Rattle.sort_term.specs.Relation.{IsPoint, Relates}
 use Rattle.sort_term.specs.RelationLaws.{OneRelation}
 use Rattle.sort_term.proofs.Each.{Each}
 use Rattle.sort_term.proofs.Agreeing.{AgreeAt, con_same, same_trees}

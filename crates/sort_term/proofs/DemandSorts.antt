@@ -12,7 +12,7 @@ use Rattle.sort_term.specs.declared.rule.Source.TheVariants.{Expr, Row as RowOf}
 use Rattle.sort_term.specs.declared.rule.Demand.{Demand}
 use Rattle.sort_term.specs.declared.rule.Demand.TheVariants.{Let, When}
 use Rattle.sort_term.specs.Sorted.{is_same, pattern_sort, expr_sort}
-use Rattle.sort_term.specs.Stands.{reads, source_reads, demand_reads}
+use Rattle.sort_term.specs.Stands.{source_reads, demand_reads}
 use Rattle.sort_term.specs.Rules.{row_sort, source_sort, common_sort, demand_sort}
 use Rattle.sort_term.proofs.Parts.{is_same_is}
 use Rattle.sort_term.proofs.Declared.{declares}

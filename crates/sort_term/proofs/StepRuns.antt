@@ -1,11 +1,8 @@
 -- Runs of a semantics: they go through states, and their rules fix them.
-use Rattle.std.proofs.Common.{◌≡◌, ℕ, List, [], ◌∷◌, length, All, ap, subst, refl}
+use Rattle.std.proofs.Common.{◌≡◌, [], ◌∷◌, length, ap, subst, refl}
 use Rattle.std.proofs.lemmas.List.Elements.{All-nil, All-cons}
-use Rattle.sort_term.specs.System.{System}
-use Rattle.sort_term.specs.Tree.{Tree}
-use Rattle.sort_term.specs.Rules.{IsSemantics}
-use Rattle.sort_term.specs.Step.{Tables, StepsBy, IsState}
-use Rattle.sort_term.specs.Runs.{reached, rules_of, IsRun}
+use Rattle.sort_term.specs.Step.{StepsBy, IsState}
+use Rattle.sort_term.specs.Runs.{rules_of, IsRun}
 use Rattle.sort_term.specs.RunLaws.{RulesFixRuns}
 use Rattle.sort_term.specs.SortLaws.{RunsKeepStates}
 use Rattle.sort_term.proofs.Agreeing.{one_step}

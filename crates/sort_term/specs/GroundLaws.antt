@@ -1,5 +1,5 @@
 -- Laws of well grounded relations, and of runs that always meet the cut.
-use Rattle.std.specs.Prelude.{◌≡◌, ℕ, ◌≤◌, List, ◌++◌}
+use Rattle.std.specs.Prelude.{ℕ, ◌≤◌, List}
 use Rattle.sort_term.specs.declared.points.Cut.{Cut}
 use Rattle.sort_term.specs.declared.problem.Problem.{Problem}
 use Rattle.sort_term.specs.System.{System}

@@ -1,4 +1,4 @@
-use Rattle.std.proofs.Common.{rules, ◌≡◌, sym, ap, ◌∙◌, subst}
+use Rattle.std.proofs.Common.{rules, ◌≡◌, sym, subst}
 use Rattle.semantics_load.specs.Declares.{Declared, nothing, Declares}
 use Rattle.rule_text.proofs.Turns.{in_turn_next, in_turn_whole, in_turn_at, same_turns}
 use Rattle.semantics_load.proofs.Same.{one_declared}

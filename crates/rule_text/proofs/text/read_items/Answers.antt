@@ -1,4 +1,4 @@
-use Rattle.std.proofs.Common.{◌≡◌, subst, sym}
+use Rattle.std.proofs.Common.{subst, sym}
 use Rattle.sexp_text.specs.Faults.{IsReadError}
 use Rattle.rule_text.specs.Writes.{WritesItems}
 use Rattle.rule_text.proofs.Texts.{of_forms, no_items}

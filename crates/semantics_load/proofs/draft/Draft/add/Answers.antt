@@ -1,7 +1,7 @@
-use Rattle.std.proofs.Common.{rules, ◌≡◌, sym, ap, ◌∙◌, subst}
+use Rattle.std.proofs.Common.{sym, ap, ◌∙◌, subst}
 use Rattle.rule_text.specs.declared.item.Item.{Item}
 use Rattle.rule_text.specs.declared.item.Item.TheVariants.{Con, Rule}
-use Rattle.semantics_load.specs.Declares.{Declared, Declares}
+use Rattle.semantics_load.specs.Declares.{Declares}
 use Rattle.semantics_load.proofs.draft.Draft.add.Goals as goal
 
 pub returns-in-Con-clause-unread : goal.returns-in-Con-clause-unread

@@ -1,9 +1,9 @@
-use Rattle.std.proofs.Common.{rules, ◌≡◌, map, sym, ap, ◌∙◌, subst}
+use Rattle.std.proofs.Common.{rules, map, sym, subst}
 use Rattle.std.proofs.lemmas.Result.{IfOk-weaker}
 use Rattle.sort_term.specs.declared.semantics.Con.{Con}
 use Rattle.name_resolution.specs.Names.{IsNew}
 use Rattle.name_resolution.specs.Known.{Vocabulary}
-use Rattle.semantics_load.specs.Declares.{Declared, IsConText, with_con}
+use Rattle.semantics_load.specs.Declares.{IsConText}
 use Rattle.semantics_load.proofs.draft.Draft.with_con.Goals as goal
 
 pub returns-in_err-con-clause-unread : goal.returns-in_err-con-clause-unread

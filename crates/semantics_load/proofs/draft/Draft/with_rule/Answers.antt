@@ -1,7 +1,7 @@
-use Rattle.std.proofs.Common.{rules, ◌≡◌, sym, ap, ◌∙◌, subst, Bool, true, false}
+use Rattle.std.proofs.Common.{rules, ◌≡◌, sym, ◌∙◌, subst, true, false}
 use Rattle.std.proofs.lemmas.Result.{IfOk-weaker}
 use Rattle.name_resolution.specs.Known.{Vocabulary}
-use Rattle.semantics_load.specs.Declares.{Declared, raw_rule, IsRuleText, with_rule}
+use Rattle.semantics_load.specs.Declares.{raw_rule, IsRuleText}
 use Rattle.semantics_load.proofs.draft.Draft.with_rule.Goals as goal
 
 pub returns-then-not-has_config-clause-unread : goal.returns-then-not-has_config-clause-unread
