@@ -4,7 +4,8 @@ use Rattle.std.proofs.lemmas.List.Elements.{All-map}
 use Rattle.data_value.specs.declared.Scalar.TheVariants.{Flag}
 use Rattle.data_value.specs.declared.Value.{Value}
 use Rattle.data_value.specs.declared.Value.TheVariants.{One}
-use Rattle.data_value.specs.Ground.{ground_seen, ground-laws}
+use Rattle.data_value.specs.Ground.{ground_seen}
+use Rattle.data_value.specs.GroundLawful.{ground-laws}
 use Rattle.sort_term.specs.declared.points.Cut.{Cut}
 use Rattle.sort_term.specs.System.{System}
 use Rattle.sort_term.specs.Tree.{Tree, Trees, pattern_value}
