@@ -4,6 +4,7 @@
 
 mod conditions;
 mod failed;
+mod search;
 
 use failed::Failed;
 use sexp_text::{Form, FormKind, read};
@@ -33,6 +34,7 @@ fn answered(alloc: Global, form: &Form) -> Result<&'static str, Failed> {
 fn called(alloc: Global, parts: &[Form]) -> Result<&'static str, Failed> {
     match parts {
         [head, arguments @ ..] => match &head.kind {
+            FormKind::Word(name) if name.as_slice() == b"search".as_slice() => search::answer(alloc, arguments),
             FormKind::Word(name) => conditions::answer(alloc, name.as_slice(), arguments),
             _ => Err(Failed::NoCall),
         },
