@@ -80,6 +80,7 @@ false_whole p x c f n = false_from p c (λ y h.
       | inr e ↦ e
     ])
 
+-- the empty clause
 pub false_but_none : (p : List (Option Bool)) (x : Lit) → false_but p x [] ≡ true
 unfolding false_but
 false_but_none p x = refl

@@ -6,10 +6,11 @@ use Rattle.refute_check.specs.declared.lit.Lit.{Lit}
 use Rattle.refute_check.specs.Derived.{clause_at}
 use Rattle.clause_search.specs.declared.trail.Entry.{Entry}
 use Rattle.clause_search.specs.declared.trail.Trail.{Trail}
-use Rattle.clause_search.specs.Partial.{false_but, with_lit, open_count}
-use Rattle.clause_search.specs.Trail.{IsReason, IsEntry, Leads, IsTrail, Pushed, weight, room, Follows, Nears, IsLook}
-use Rattle.clause_search.proofs.PartialLemmas.{open_var, open_count_with}
+use Rattle.clause_search.specs.Partial.{false_but, with_lit}
+use Rattle.clause_search.specs.Trail.{IsReason, IsEntry, Leads, IsTrail, Pushed, weight, room, Follows, Nears, TakesNext}
+use Rattle.clause_search.proofs.PartialLemmas.{open_count, open_var, open_count_with}
 
+-- one entry more
 pub leads_push : (cs : List (List Lit)) (p : List (Option Bool)) (es : List Entry) (q : List (Option Bool)) (e : Entry) → Leads cs p es q → IsEntry cs q e → Leads cs p (es ++ e ∷ []) (with_lit q e.lit)
 leads_push cs p [] q e l h = (subst (λ (r : List (Option Bool)). IsEntry cs r e) (sym l) h, ap (λ (r : List (Option Bool)). with_lit r e.lit) l)
 leads_push cs p (g ∷ es) q e l h = (l.0, leads_push cs (with_lit p g.lit) es q e l.1 h)
@@ -27,6 +28,7 @@ leads_pop cs p (g ∷ es) e q l =
     let r = leads_pop cs (with_lit p g.lit) es e q l.1 in
     record { before = r.before; leads = (l.0, r.leads); entry = r.entry; after = r.after }
 
+-- a reason stays one
 reason_more : (cs more : List (List Lit)) (p : List (Option Bool)) (l : Lit) (r : Option ℕ) → IsReason cs p l r → IsReason (cs ++ more) p l r
 reason_more cs more p l None h = tt
 reason_more cs more p l (Some k) h =
@@ -54,6 +56,7 @@ leads_count cs p (e ∷ es) q l =
 abbrev nothing : Option Bool
 nothing = None
 
+-- at first no variable has a truth value
 count_open : (n : ℕ) → open_count (replicate n nothing) ≡ n
 count_open zero = refl
 count_open (suc n) = let r = count_open n in omega arith
@@ -73,6 +76,7 @@ weight_at_most : (n : ℕ) (r : Option ℕ) → weight n r ≤ 2 * 4 ^ n
 weight_at_most n None = omega arith
 weight_at_most n (Some k) = omega arith
 
+-- the room of no entry, and of one more in front
 room_none : (n : ℕ) → room n [] ≡ 4 ^ n
 unfolding room
 room_none n = refl
@@ -98,6 +102,7 @@ room_push (suc n) (g ∷ es) e h =
     let b = room_cons n g es in
     omega arith
 
+-- the weight of a decision, and of a forced literal
 weight_free : (n : ℕ) (r : Option ℕ) → r ≡ None → weight n r ≡ 2 * 4 ^ n
 weight_free n r e = ap (weight n) e
 
@@ -133,6 +138,7 @@ trail_pushed cs old new e t h w =
     let fewer : room (length new.values) new.entries < room (length old.values) old.entries = rw (vars, w.entries) r in
     record { trail = record { leads = moved }; vars = vars; room = fewer }
 
+-- a truth value that is given and taken back
 restored : (p : List (Option Bool)) (i : ℕ) (v : Bool) → get_or p i None ≡ None → set (set p i (Some v)) i None ≡ p
 restored [] i v h = refl
 restored (x ∷ p) zero v h = ap (λ (o : Option Bool). o ∷ p) (sym h)
@@ -156,22 +162,13 @@ trail_popped cs old new e t h v =
     let moved : Leads cs (replicate (length new.values) None) new.entries new.values = rw (vars, same) r.leads in
     record { trail = record { leads = moved }; entry = entry; values = values; vars = vars }
 
+-- the same, where no more than that is wanted
 pub follows_pushed : (cs : List (List Lit)) (old new : Trail) (e : Entry) → IsTrail cs old → IsEntry cs old.values e → Pushed old e new → Follows cs old new
 follows_pushed cs old new e t h w = let n = trail_pushed cs old new e t h w in record { trail = n.trail; vars = n.vars; room = omega (arith, n.room) }
 
-pub follows_looked : (cs : List (List Lit)) (old new : Trail) → new.entries ≡ old.entries → new.values ≡ old.values → IsTrail cs old → Follows cs old new
-follows_looked cs old new e v h =
-    let vars : length new.values ≡ length old.values = ap length v in
-    let leads : Leads cs (replicate (length new.values) None) new.entries new.values = rw (v, e) h.leads in
-    let same : room (length new.values) new.entries ≡ room (length old.values) old.entries = rw (v, e) refl in
-    record { trail = record { leads = leads }; vars = vars; room = omega (arith, same) }
-
-pub follows_trans : (cs : List (List Lit)) (a b c : Trail) → Follows cs a b → Follows cs b c → Follows cs a c
-follows_trans cs a b c f g = record { trail = g.trail; vars = g.vars ∙ f.vars; room = omega (arith, f.room, g.room) }
-
--- propagation looks at one entry more each time
-pub looked_falls : (cs : List (List Lit)) (a b c : Trail) → IsTrail cs a → IsLook a b → c.looked ≡ b.looked → Follows cs b c → length c.values - c.looked < length a.values - a.looked
-looked_falls cs a b c t k e f =
+-- each time one entry more is propagated
+pub propagated_falls : (cs : List (List Lit)) (a b c : Trail) → IsTrail cs a → TakesNext a b → c.propagated ≡ b.propagated → Follows cs b c → length c.values - c.propagated < length a.values - a.propagated
+propagated_falls cs a b c t k e f =
     let count = trail_count cs a t in
     let same : length b.values ≡ length a.values = ap length k.values in
-    omega (arith, k.within, k.looked, f.vars)
+    omega (arith, k.within, k.propagated, f.vars)

@@ -1,8 +1,8 @@
 use Rattle.std.proofs.Common.{◌≡◌, ◌≤◌, ◌+◌, ◌∷◌, ◌++◌, [], List, None, length, take, ap, sym, ◌∙◌, arith, length-append, length-set}
-use Rattle.std.proofs.lemmas.List.{take-append-le}
+use Rattle.std.proofs.lemmas.List.{take-append-le, take_all}
 use Rattle.clause_search.specs.declared.trail.Entry.{Entry}
 use Rattle.clause_search.proofs.TrailLemmas.{trail_popped}
-use Rattle.clause_search.proofs.AnalysisLemmas.{unmarked_front, unmarked_last, others_stay, unset_open}
+use Rattle.clause_search.proofs.MarkLemmas.{unmarked_front, unmarked_last, others_stay, unset_open}
 use Rattle.clause_search.proofs.analysis.jump.Goals as goal
 
 pub loop-trail-preserved-in-Some : goal.loop-trail-preserved-in-Some
@@ -28,3 +28,9 @@ loop-trail-preserved-in-Some c =
       others = λ u s h. others_stay old.values new.values marks e.lit.var u s v free (i.others u s h);
       undecided = λ u h. unset_open old.values new.values e.lit.var u v (i.undecided u h);
     }
+
+pub returns : goal.returns
+returns c =
+    let i = c.loop-trail.invariant in
+    let whole : length c.loop-trail.trail.entries ≤ c.args.kept = omega (arith, c.len.ensures, c.loop-trail-test.false) in
+    record { trail = i.trail; entries = sym (take_all c.args.kept c.loop-trail.trail.entries whole) ∙ i.entries; vars = i.vars; others = i.others; undecided = i.undecided }

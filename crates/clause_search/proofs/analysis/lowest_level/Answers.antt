@@ -1,6 +1,6 @@
 use Rattle.std.proofs.Common.{◌≡◌, ◌-◌, inl, arith, false, None, Some, Option, ℕ, refl, sym}
 use Rattle.std.specs.Option.{is_some}
-use Rattle.clause_search.proofs.AnalysisLemmas.{unmarked_more, before_decision}
+use Rattle.clause_search.proofs.MarkLemmas.{unmarked_more, before_decision}
 use Rattle.clause_search.proofs.analysis.lowest_level.Goals as goal
 
 no_number : (o : Option ℕ) → is_some o ≡ false → o ≡ None

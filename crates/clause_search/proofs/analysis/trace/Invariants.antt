@@ -1,7 +1,7 @@
 use Rattle.std.proofs.Common.{◌≡◌, ◌<◌, All, length}
 use Rattle.clause_search.specs.Trail.{IsTrail}
 use Rattle.clause_search.specs.Analysis.{gathered, AreSeen}
-use Rattle.clause_search.proofs.AnalysisLemmas.{Begins}
+use Rattle.clause_search.proofs.LearnedLemmas.{Begins}
 use Rattle.clause_search.proofs.analysis.trace.Given as goal
 
 abbrev pub invariant-loop-entry : goal.invariant-loop-entry

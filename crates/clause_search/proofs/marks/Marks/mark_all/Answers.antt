@@ -1,7 +1,7 @@
 use Rattle.std.proofs.Common.{◌+◌, subst, sym, List, take, refl}
 use Rattle.refute_check.specs.declared.lit.Lit.{Lit}
 use Rattle.clause_search.specs.Analysis.{MarksClause}
-use Rattle.clause_search.proofs.AnalysisLemmas.{marks_none, marks_more}
+use Rattle.clause_search.proofs.MarkLemmas.{marks_none, marks_more}
 use Rattle.clause_search.proofs.marks.Marks.mark_all.Goals as goal
 
 pub loop-lit-init : goal.loop-lit-init
