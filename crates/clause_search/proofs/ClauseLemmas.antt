@@ -1,34 +1,12 @@
 -- Clauses that a partial assignment makes false.
-use Rattle.std.proofs.Common.{ℕ, ◌≡◌, ◌<◌, Bool, true, false, not, ◌&&◌, ◌||◌, ◌⊎◌, Option, Some, None, List, [], ◌∷◌, length, get_or, replicate, refl, sym, ap, ◌∙◌, subst, inl, inr, zero, suc, arith}
-use Rattle.std.proofs.lemmas.Bool.{and_parts, and_from, or_cases, or_parts, or_right, ltb-true}
+use Rattle.std.proofs.Common.{ℕ, ◌≡◌, ◌<◌, Bool, true, false, ◌||◌, ◌⊎◌, Option, Some, None, List, [], ◌∷◌, length, get_or, take, ◌+◌, refl, ◌∙◌, subst, inl, inr, zero, suc, arith}
+use Rattle.std.proofs.lemmas.Bool.{and_parts, and_from, or_cases, or_parts, or_left, or_right, ltb-true, cases_Bool}
+use Rattle.std.proofs.lemmas.List.Folds.{list_all_more}
 use Rattle.refute_check.specs.declared.lit.Lit.{Lit}
-use Rattle.refute_check.specs.Truth.{flipped, clause_below, list_below}
-use Rattle.refute_check.specs.Literals.{same_lit, has_lit, resolvent}
-use Rattle.refute_check.specs.Derived.{is_empty}
-use Rattle.refute_check.proofs.LitLemmas.{same_lit_refl, same_lit_eq, has_lit_first, has_lit_cons}
-use Rattle.clause_search.specs.Partial.{lit_value, is_true, is_false, is_open, satisfies, falsifies, false_but, with_lit, IsOpenIn, HasNoOpen}
-use Rattle.clause_search.proofs.PartialLemmas.{flipped_twice, false_after, all_open}
-
--- a clause that is false after a literal was made true was false but for its opposite
-pub false_with : (p : List (Option Bool)) (l : Lit) (c : List Lit) → l.var < length p → falsifies (with_lit p l) c ≡ true → false_but p (flipped l) c ≡ true
-unfolding falsifies false_but
-false_with p l [] h f = refl
-false_with p l (k ∷ ks) h f =
-    let q = and_parts (is_false (lit_value (with_lit p l) k)) _ f in
-    and_from (same_lit (flipped l) k || is_false (lit_value p k)) _ (false_after p l k h q.0) (false_with p l ks h q.1)
-
--- a clause that is false but for a literal that it hasn't
-pub false_absent : (p : List (Option Bool)) (x : Lit) (c : List Lit) → false_but p x c ≡ true → has_lit c x ≡ false → falsifies p c ≡ true
-unfolding falsifies false_but
-false_absent p x [] f n = refl
-false_absent p x (k ∷ ks) f n =
-    let q = and_parts (same_lit x k || is_false (lit_value p k)) _ f in
-    let m = or_parts (same_lit k x) (has_lit ks x) (sym (has_lit_cons k ks x) ∙ n) in
-    let here : is_false (lit_value p k) ≡ true = elim (or_cases (same_lit x k) (is_false (lit_value p k)) q.0) [
-      | inl e ↦ let z : same_lit k x ≡ true = subst (λ (y : Lit). same_lit k y ≡ true) (sym (same_lit_eq x k e)) (same_lit_refl k) in cc
-      | inr e ↦ e
-    ] in
-    and_from (is_false (lit_value p k)) _ here (false_absent p x ks q.1 m.1)
+use Rattle.refute_check.specs.Truth.{clause_below, list_below}
+use Rattle.refute_check.specs.Literals.{same_lit, has_lit}
+use Rattle.refute_check.proofs.LitLemmas.{same_lit_eq, has_lit_first, has_lit_cons}
+use Rattle.clause_search.specs.Partial.{lit_value, is_true, is_false, is_open, satisfies, falsifies, false_but, IsOpenIn, HasNoOpen}
 
 -- each literal of a clause that is false but for one is that one or false
 pub false_but_at : (p : List (Option Bool)) (x : Lit) (c : List Lit) (y : Lit) → false_but p x c ≡ true → has_lit c y ≡ true → (same_lit x y ≡ true) ⊎ (is_false (lit_value p y) ≡ true)
@@ -47,32 +25,6 @@ unfolding falsifies
 false_from p [] h = refl
 false_from p (k ∷ ks) h =
     and_from (is_false (lit_value p k)) _ (h k (has_lit_first k ks)) (false_from p ks (λ x e. h x (has_lit_cons k ks x ∙ or_right (same_lit k x) _ e)))
-
-kept_false : (p : List (Option Bool)) (x y : Lit) (c : List Lit) → false_but p x c ≡ true → (has_lit c y && not (same_lit x y)) ≡ true → is_false (lit_value p y) ≡ true
-kept_false p x y c f h =
-    let q = and_parts (has_lit c y) _ h in
-    elim (false_but_at p x c y f q.0) [
-      | inl e ↦ let z : not (same_lit x y) ≡ false = ap not e in cc
-      | inr e ↦ e
-    ]
-
--- the resolvent on a literal's opposite of clauses that are false but for that and for the literal is false
-pub resolvent_false : (p : List (Option Bool)) (l : Lit) (a b c : List Lit) → false_but p (flipped l) a ≡ true → false_but p l b ≡ true → ((x : Lit) → has_lit c x ≡ resolvent (has_lit a) (has_lit b) (flipped l) x) → falsifies p c ≡ true
-resolvent_false p l a b c f g r = false_from p c (λ x h.
-    let q : resolvent (has_lit a) (has_lit b) (flipped l) x ≡ true = sym (r x) ∙ h in
-    elim (or_cases (has_lit a x && not (same_lit (flipped l) x)) _ q) [
-      | inl e ↦ kept_false p (flipped l) x a f e
-      | inr e ↦ kept_false p l x b g (subst (λ (k : Lit). (has_lit b x && not (same_lit k x)) ≡ true) (flipped_twice l) e)
-    ])
-
--- at first only the empty clause is false
-pub false_at_first : (n : ℕ) (c : List Lit) → falsifies (replicate n None) c ≡ true → is_empty c ≡ true
-unfolding falsifies
-false_at_first n [] f = refl
-false_at_first n (k ∷ ks) f =
-    let q = and_parts (is_false (lit_value (replicate n None) k)) _ f in
-    let z : is_false (lit_value (replicate n None) k) ≡ false = ap is_false (all_open n k) in
-    cc
 
 open_or_decided : (o : Option Bool) → is_true o ≡ false → is_open o ≡ false → is_false o ≡ true
 open_or_decided None t n = cc
@@ -119,3 +71,33 @@ unfolding list_below
 in_scope n [] k d l b h m = absurd (omega arith)
 in_scope n (c ∷ cs) zero d l b h m = lit_below n c l (and_parts (clause_below n c) _ b).0 m
 in_scope n (c ∷ cs) (suc k) d l b h m = in_scope n cs k d l (and_parts (clause_below n c) _ b).1 (omega arith) m
+
+-- a clause that is false but for one literal, which is false too
+pub false_whole : (p : List (Option Bool)) (x : Lit) (c : List Lit) → false_but p x c ≡ true → is_false (lit_value p x) ≡ true → falsifies p c ≡ true
+false_whole p x c f n = false_from p c (λ y h.
+    elim (false_but_at p x c y f h) [
+      | inl e ↦ subst (λ (z : Lit). is_false (lit_value p z) ≡ true) (same_lit_eq x y e) n
+      | inr e ↦ e
+    ])
+
+-- the empty clause
+pub false_but_none : (p : List (Option Bool)) (x : Lit) → false_but p x [] ≡ true
+unfolding false_but
+false_but_none p x = refl
+
+-- one literal more
+pub false_but_more : (p : List (Option Bool)) (x : Lit) (ls : List Lit) (i : ℕ) (d l : Lit) → i < length ls → l ≡ get_or ls i d → false_but p x (take i ls) ≡ true → (same_lit x l || is_false (lit_value p l)) ≡ true → false_but p x (take (i + 1) ls) ≡ true
+unfolding false_but
+false_but_more p x ls i d l h e f o =
+    list_all_more (λ (k : Lit). same_lit x k || is_false (lit_value p k)) ls i d h ∙ and_from _ _ f (subst (λ (k : Lit). (same_lit x k || is_false (lit_value p k)) ≡ true) e o)
+
+-- a clause each literal of which is the one or false
+pub false_but_from : (p : List (Option Bool)) (x : Lit) (c : List Lit) → ((y : Lit) → has_lit c y ≡ true → same_lit x y ≡ false → is_false (lit_value p y) ≡ true) → false_but p x c ≡ true
+unfolding false_but
+false_but_from p x [] h = refl
+false_but_from p x (k ∷ ks) h =
+    let here : (same_lit x k || is_false (lit_value p k)) ≡ true = elim (cases_Bool (same_lit x k)) [
+      | inl e ↦ or_left (same_lit x k) _ e
+      | inr e ↦ or_right (same_lit x k) _ (h k (has_lit_first k ks) e)
+    ] in
+    and_from (same_lit x k || is_false (lit_value p k)) _ here (false_but_from p x ks (λ y e n. h y (has_lit_cons k ks y ∙ or_right (same_lit k y) _ e) n))
