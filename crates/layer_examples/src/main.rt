@@ -34,7 +34,9 @@ fn answered(alloc: Global, form: &Form) -> Result<&'static str, Failed> {
 fn called(alloc: Global, parts: &[Form]) -> Result<&'static str, Failed> {
     match parts {
         [head, arguments @ ..] => match &head.kind {
-            FormKind::Word(name) if name.as_slice() == b"search".as_slice() => search::answer(alloc, arguments),
+            FormKind::Word(name) if name.as_slice() == b"search".as_slice() => search::answer(
+                alloc, arguments,
+            ),
             FormKind::Word(name) => conditions::answer(alloc, name.as_slice(), arguments),
             _ => Err(Failed::NoCall),
         },
