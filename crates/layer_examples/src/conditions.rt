@@ -12,7 +12,11 @@ use sexp_text::{Form, FormKind};
 use std::alloc::Global;
 
 /// What the call with this name answers.
-pub fn answer(alloc: Global, name: &[u8], arguments: &[Form]) -> Result<&'static str, Failed> {
+pub(crate) fn answer(
+    alloc: Global,
+    name: &[u8],
+    arguments: &[Form],
+) -> Result<&'static str, Failed> {
     if let [first, second] = arguments {
         if let (FormKind::Number(a), FormKind::Number(b)) = (&first.kind, &second.kind) {
             return same_words(alloc, name, *a, *b);

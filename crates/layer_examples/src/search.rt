@@ -12,7 +12,7 @@ const MOST_VARIABLES: u64 = 1000;
 
 /// What a search of these clauses answers: a model, or a refutation whose steps pass the check. A clause is a list of literals, each the
 /// number of a variable, or `(not NUMBER)`.
-pub fn answer(alloc: Global, clauses: &[Form]) -> Result<&'static str, Failed> {
+pub(crate) fn answer(alloc: Global, clauses: &[Form]) -> Result<&'static str, Failed> {
     let mut list: ClauseList = Items::new(alloc);
     for clause in clauses {
         list.push(clause_of(alloc, clause)?)?;
