@@ -21,7 +21,8 @@ pub fn are_ground(points: &[Point]) -> bool
     true
 }
 
-fn is_ground(point: &Point) -> bool
+/// Whether a point has no variables and no conditions. It takes no memory.
+pub fn is_ground(point: &Point) -> bool
     ensures { IsTrue result ↔ IsGroundPoint point.now }
 {
     point.vars.is_empty() && point.whens.is_empty()

@@ -8,6 +8,6 @@ mod left_partners;
 mod right_partners;
 mod verdict;
 
-pub use ground::are_ground;
+pub use ground::{are_ground, is_ground};
 pub use kind::{FailedTest, VerdictKind};
 pub use verdict::judge;

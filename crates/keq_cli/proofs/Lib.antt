@@ -1,5 +1,5 @@
 pub mod Steps
-mod GroundPoints
+mod FirstOpen
 mod Whole
 mod Unread
 mod Outcomes

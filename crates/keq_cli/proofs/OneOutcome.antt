@@ -1,5 +1,5 @@
 -- What was asked for has one outcome.
-use Rattle.std.proofs.Common.{◌≡◌, ℕ, List, [], Option, None, Some, map, slice_get, refl, sym, ap, subst, ◌∙◌}
+use Rattle.std.proofs.Common.{◌≡◌, ℕ, List, [], All, Option, None, Some, slice_get, refl, sym, ap, subst, ◌∙◌}
 use Rattle.std.proofs.lemmas.Option.{same_Some}
 use Rattle.sort_term.specs.declared.points.Point.{Point}
 use Rattle.sort_term.specs.declared.points.Points.{Points}
@@ -11,14 +11,17 @@ use Rattle.sort_term.specs.System.{System}
 use Rattle.sort_term.specs.Verdict.{IsVerdict, Kind}
 use Rattle.sort_term.specs.Verdict as kind
 use Rattle.sort_term.proofs.VerdictLemmas.{one_verdict}
-use Rattle.semantics_load.proofs.Same.{one_semantics}
+use Rattle.semantics_load.proofs.OneText.{one_semantics}
 use Rattle.program_text.specs.Text.{IsProgramText}
+use Rattle.program_text.proofs.Programs.{one_program}
 use Rattle.sync_points.specs.Text.{IsPointsText}
-use Rattle.sync_points.proofs.Same.{one_points}
+use Rattle.sync_points.proofs.Drafts.{one_points}
+use Rattle.ground_judge.specs.Ground.{IsGroundPoint}
+use Rattle.keq_cli.proofs.FirstOpen.{no_open, same_open}
 use Rattle.keq_cli.specs.Outside.{FileMap}
 use Rattle.keq_cli.specs.Words.{Names, Command}
-use Rattle.keq_cli.specs.Reports.{equivalent_line, refines_lines, unmatched_lines, not_grounded_lines, unread_line}
-use Rattle.keq_cli.specs.Outcome.{FiveTexts, FirstUnread, left_semantics, right_semantics, left_program, right_program, points, AreTextsOf, IsJudged, equivalent, refines, unmatched, not_grounded, CheckEnds, unread, judged, AllHeld, usage, check, Tells, HasOneOutcome}
+use Rattle.keq_cli.specs.Reports.{equivalent_line, refines_lines, unmatched_lines, not_grounded_lines, unread_line, variables_line}
+use Rattle.keq_cli.specs.Outcome.{FiveTexts, FirstUnread, left_semantics, right_semantics, left_program, right_program, points, AreTextsOf, IsJudged, equivalent, refines, unmatched, not_grounded, IsFirstOpen, IsAnswered, variables, judged, CheckEnds, unread, answered, AllHeld, usage, check, Tells, HasOneOutcome}
 use Rattle.keq_cli.specs.declared.texts.Role.{Role}
 use Rattle.keq_cli.specs.declared.status.Status.{Status}
 use Rattle.keq_cli.specs.declared.status.Status.TheVariants.{Equivalent, Refines, Unmatched, NotGrounded}
@@ -91,8 +94,8 @@ module _ (t : FiveTexts) (q p : Problem) (a : AreTextsOf t q) (b : AreTextsOf t 
   verdict_of_texts : (n : ℕ) (k : Kind) → IsVerdict q n k → IsVerdict p n k
   verdict_of_texts n k =
       same_verdict n k q p same_left same_right
-      (a.left_program.rows ∙ ap (λ (s : System). map (λ _. []) s.tables) same_left ∙ sym b.left_program.rows)
-      (a.right_program.rows ∙ ap (λ (s : System). map (λ _. []) s.tables) same_right ∙ sym b.right_program.rows)
+      (one_program p.left t.left_program q.left_program p.left_program (subst (λ (s : System). IsProgramText s t.left_program q.left_program) same_left a.left_program) b.left_program)
+      (one_program p.right t.right_program q.right_program p.right_program (subst (λ (s : System). IsProgramText s t.right_program q.right_program) same_right a.right_program) b.right_program)
       points_of_texts
 
 -- the status and the report of a kind, where these are the points
@@ -127,11 +130,20 @@ same_judged t n q p s r x y a b i j =
     let shown : IsShown p.points.points g.0 s x = subst (λ (l : Kind). IsShown p.points.points l s x) k (subst (λ (c : Points). IsShown c.points f.0 s x) (points_of_texts t q p a b) f.2) in
     same_shown p.points.points g.0 s r x y shown g.2
 
+same_answered : (t : FiveTexts) (n : ℕ) (q p : Problem) (s r : Status) (x y : List ℕ) → AreTextsOf t q → AreTextsOf t p → IsAnswered q n s x → IsAnswered p n r y → (s ≡ r) × (x ≡ y)
+same_answered t n q p _ _ _ _ a b (variables j u first) (variables k w second) =
+    (refl, ap (λ (c : Point). variables_line c.name) (same_open p.points.points j k u w (subst (λ (ps : Points). IsFirstOpen ps.points j u) (points_of_texts t q p a b) first) second))
+same_answered t n q p _ _ _ _ a b (variables j u first) (judged r y all i) =
+    absurd (no_open p.points.points j u all (subst (λ (ps : Points). IsFirstOpen ps.points j u) (points_of_texts t q p a b) first))
+same_answered t n q p _ _ _ _ a b (judged s x all i) (variables k w second) =
+    absurd (no_open p.points.points k w (subst (λ (ps : Points). All IsGroundPoint ps.points) (points_of_texts t q p a b) all) second)
+same_answered t n q p _ _ _ _ a b (judged s x all i) (judged r y also j) = same_judged t n q p s r x y a b i j
+
 same_ends : (t : FiveTexts) (n : ℕ) (s r : Status) (x y : List ℕ) → CheckEnds t n s x → CheckEnds t n r y → (s ≡ r) × (x ≡ y)
 same_ends t n _ _ _ _ (unread a u) (unread b w) = (refl, ap unread_line (same_role t a b u w))
-same_ends t n _ _ _ _ (unread a u) (judged p r y b j) = absurd (all_load t a p u b)
-same_ends t n _ _ _ _ (judged q s x a j) (unread b w) = absurd (all_load t b q w a)
-same_ends t n _ _ _ _ (judged q s x a j) (judged p r y b k) = same_judged t n q p s r x y a b j k
+same_ends t n _ _ _ _ (unread a u) (answered p r y b j) = absurd (all_load t a p u b)
+same_ends t n _ _ _ _ (answered q s x a j) (unread b w) = absurd (all_load t b q w a)
+same_ends t n _ _ _ _ (answered q s x a j) (answered p r y b k) = same_answered t n q p s r x y a b j k
 
 -- the texts that are held under five names are told by these
 same_texts : (files : FileMap) (names : Names) (t u : FiveTexts) → AllHeld files names t → AllHeld files names u → t ≡ u

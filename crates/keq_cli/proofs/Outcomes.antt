@@ -4,7 +4,7 @@ use Rattle.keq_cli.specs.Outside.{FileMap}
 use Rattle.keq_cli.specs.Words.{Command}
 use Rattle.keq_cli.specs.Status.{IsAnswer}
 use Rattle.keq_cli.specs.Reports.{bad_words_line}
-use Rattle.keq_cli.specs.Outcome.{FiveTexts, IsJudged, equivalent, refines, unmatched, not_grounded, CheckEnds, unread, judged, Outcome, usage, check}
+use Rattle.keq_cli.specs.Outcome.{FiveTexts, IsJudged, equivalent, refines, unmatched, not_grounded, IsAnswered, variables, judged, CheckEnds, unread, answered, Outcome, usage, check}
 use Rattle.keq_cli.specs.declared.status.Status.{Status}
 use Rattle.keq_cli.specs.declared.status.Status.TheVariants.{Usage, ReadFault, WriteFault, NoMemory}
 use Rattle.sort_term.specs.declared.problem.Problem.{Problem}
@@ -21,10 +21,14 @@ judged_answers q steps _ _ (refines k p v is) = (tt, λ e. cc)
 judged_answers q steps _ _ (unmatched k p v is) = (tt, λ e. cc)
 judged_answers q steps _ _ (not_grounded k test p v is) = (tt, λ e. cc)
 
+answered_answers : (q : Problem) (steps : ℕ) (status : Status) (report : List ℕ) → IsAnswered q steps status report → IsAnswer status × (status ≢ Usage)
+answered_answers q steps _ _ (variables k p first) = (tt, λ e. cc)
+answered_answers q steps _ _ (judged status report all j) = judged_answers q steps status report j
+
 -- and so is the end of a check
 pub ends_answers : (t : FiveTexts) (steps : ℕ) (status : Status) (report : List ℕ) → CheckEnds t steps status report → IsAnswer status × (status ≢ Usage)
 ends_answers t steps _ _ (unread role first) = (tt, λ e. cc)
-ends_answers t steps _ _ (judged q status report a j) = judged_answers q steps status report j
+ends_answers t steps _ _ (answered q status report a how) = answered_answers q steps status report how
 
 pub check_answers : (held : Option FileMap) (command : Command) (status : Status) (report : List ℕ) → Outcome held (Some command) status report → IsAnswer status × (status ≢ Usage)
 check_answers held _ _ _ (check names steps texts status report holds ends) = ends_answers texts steps status report ends

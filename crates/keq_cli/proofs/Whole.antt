@@ -12,7 +12,7 @@ use Rattle.sync_points.specs.Text.{IsPointsText}
 use Rattle.keq_cli.specs.Outside.{FileMap, IsFetched}
 use Rattle.keq_cli.specs.Words.{Names, Check}
 use Rattle.keq_cli.specs.Texts.{AllFetched}
-use Rattle.keq_cli.specs.Outcome.{FiveTexts, texts_of, NoSemantics, NoProgram, NoPoints, FirstUnread, left_semantics, right_semantics, left_program, right_program, points, AreTextsOf, CheckEnds, unread, judged, AllHeld, Outcome, check}
+use Rattle.keq_cli.specs.Outcome.{FiveTexts, texts_of, NoSemantics, NoProgram, NoPoints, FirstUnread, left_semantics, right_semantics, left_program, right_program, points, AreTextsOf, CheckEnds, unread, answered, AllHeld, Outcome, check}
 use Rattle.keq_cli.specs.declared.texts.Role.{Role}
 use Rattle.keq_cli.specs.declared.texts.Texts.{Texts}
 use Rattle.keq_cli.specs.declared.status.Status.{Status}
@@ -27,22 +27,22 @@ module _ (P : List ℕ → Type 0) (short : (text : List ℕ) → P text → len
 
 module _ {files : FileMap} {name front : List ℕ} (f : IsFetched files name 1048577 front) where
   whole_semantics : (s : System) → IsSemanticsText front s → IsSemanticsText f.all s
-  whole_semantics s = to_whole (λ text. IsSemanticsText text s) (λ text t. t.text.text.short) f.all front f.front
+  whole_semantics s = to_whole (λ text. IsSemanticsText text s) (λ text t. t.whole.text.text.short) f.all front f.front
 
   no_semantics : NoSemantics front → NoSemantics f.all
-  no_semantics none s t = none s (to_front (λ text. IsSemanticsText text s) (λ text t. t.text.text.short) f.all front f.front t)
+  no_semantics none s t = none s (to_front (λ text. IsSemanticsText text s) (λ text t. t.whole.text.text.short) f.all front f.front t)
 
   whole_program : (s : System) (p : Tables) → IsProgramText s front p → IsProgramText s f.all p
-  whole_program s p = to_whole (λ text. IsProgramText s text p) (λ text t. t.text.text.short) f.all front f.front
+  whole_program s p = to_whole (λ text. IsProgramText s text p) (λ text t. t.whole.text.text.short) f.all front f.front
 
   no_program : (s : System) → NoProgram s front → NoProgram s f.all
-  no_program s none p t = none p (to_front (λ text. IsProgramText s text p) (λ text t. t.text.text.short) f.all front f.front t)
+  no_program s none p t = none p (to_front (λ text. IsProgramText s text p) (λ text t. t.whole.text.text.short) f.all front f.front t)
 
   whole_points : (l r : System) (p : Points) → IsPointsText l r front p → IsPointsText l r f.all p
-  whole_points l r p = to_whole (λ text. IsPointsText l r text p) (λ text t. t.text.text.short) f.all front f.front
+  whole_points l r p = to_whole (λ text. IsPointsText l r text p) (λ text t. t.whole.text.text.short) f.all front f.front
 
   no_points : (l r : System) → NoPoints l r front → NoPoints l r f.all
-  no_points l r none p t = none p (to_front (λ text. IsPointsText l r text p) (λ text t. t.text.text.short) f.all front f.front t)
+  no_points l r none p t = none p (to_front (λ text. IsPointsText l r text p) (λ text t. t.whole.text.text.short) f.all front f.front t)
 
 module _ {files : FileMap} {names : Names} {texts : Texts} (a : AllFetched files names 1048577 texts) where
   abbrev wholes : FiveTexts
@@ -69,7 +69,7 @@ module _ {files : FileMap} {names : Names} {texts : Texts} (a : AllFetched files
 
   whole_ends : (steps : ℕ) (status : Status) (report : List ℕ) → CheckEnds (texts_of texts) steps status report → CheckEnds wholes steps status report
   whole_ends steps _ _ (unread role first) = unread role (whole_unread role first)
-  whole_ends steps _ _ (judged q status report t j) = judged q status report (whole_texts q t) j
+  whole_ends steps _ _ (answered q status report t how) = answered q status report (whole_texts q t) how
 
 -- the end of a check of the fetched texts is an outcome
 pub fetched_outcome : (held : Option FileMap) (names : Names) (texts : Texts) → IfSome held (λ files. AllFetched files names 1048577 texts) → (steps : ℕ) (status : Status) (report : List ℕ) → CheckEnds (texts_of texts) steps status report → Outcome held (Some (Check names steps)) status report

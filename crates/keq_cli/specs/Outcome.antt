@@ -1,5 +1,5 @@
 -- How what was asked for ends, and what is reported.
-use Rattle.std.specs.Prelude.{◌≡◌, ℕ, List, Option, None, Some, IsSome, IfSome, ⊤}
+use Rattle.std.specs.Prelude.{◌≡◌, ℕ, List, take, slice_get, All, Option, None, Some, IsSome, IfSome, ⊤}
 use Rattle.std.specs.FinMap.{get}
 use Rattle.sort_term.specs.declared.points.Point.{Point}
 use Rattle.sort_term.specs.declared.points.Points.{Points}
@@ -10,12 +10,13 @@ use Rattle.sort_term.specs.Relation.{IsPoint}
 use Rattle.sort_term.specs.Simulation.{Test}
 use Rattle.sort_term.specs.Verdict.{IsVerdict}
 use Rattle.sort_term.specs.Verdict as kind
+use Rattle.ground_judge.specs.Ground.{IsGroundPoint}
 use Rattle.semantics_load.specs.Text.{IsSemanticsText}
 use Rattle.program_text.specs.Text.{IsProgramText}
 use Rattle.sync_points.specs.Text.{IsPointsText}
 use Rattle.keq_cli.specs.Outside.{FileMap, IsTaken, IsFrontTaken}
 use Rattle.keq_cli.specs.Words.{Names, Command, Check}
-use Rattle.keq_cli.specs.Reports.{equivalent_line, refines_lines, unmatched_lines, not_grounded_lines, unread_line, bad_words_line}
+use Rattle.keq_cli.specs.Reports.{equivalent_line, refines_lines, unmatched_lines, not_grounded_lines, unread_line, variables_line, bad_words_line}
 use Rattle.keq_cli.specs.declared.answer.Answer.{Answer}
 use Rattle.keq_cli.specs.declared.texts.Role.{Role}
 use Rattle.keq_cli.specs.declared.texts.Role.TheVariants.{LeftSemantics, RightSemantics, LeftProgram, RightProgram, Points as PointsRole}
@@ -60,6 +61,12 @@ pub record AreTextsOf (t : FiveTexts) (q : Problem) : Type 0 where
   pub right_program : IsProgramText q.right t.right_program q.right_program
   pub points : IsPointsText q.left q.right t.points q.points
 
+-- the first point that has variables or conditions
+pub record IsFirstOpen (points : List Point) (k : ℕ) (p : Point) : Type 0 where
+  pub there : slice_get points k ≡ Some p
+  pub not_ground : ¬ IsGroundPoint p
+  pub ground_before : All IsGroundPoint (take k points)
+
 -- how a problem is judged for a number of steps: the status and the report of its verdict
 pub data IsJudged (q : Problem) (steps : ℕ) : Status → List ℕ → Type 0 where
   equivalent : IsVerdict q steps kind.equivalent → IsJudged q steps Equivalent equivalent_line
@@ -67,10 +74,15 @@ pub data IsJudged (q : Problem) (steps : ℕ) : Status → List ℕ → Type 0 w
   unmatched : (k : ℕ) (p : Point) → IsVerdict q steps (kind.unmatched k) → IsPoint q k p → IsJudged q steps Unmatched (unmatched_lines p.name)
   not_grounded : (k : ℕ) (test : Test) (p : Point) → IsVerdict q steps (kind.ungrounded k test) → IsPoint q k p → IsJudged q steps NotGrounded (not_grounded_lines test p.name)
 
--- how a check of five texts ends
+-- how a problem is answered: with a point that is not judged yet, or with the verdict
+pub data IsAnswered (q : Problem) (steps : ℕ) : Status → List ℕ → Type 0 where
+  variables : (k : ℕ) (p : Point) → IsFirstOpen q.points.points k p → IsAnswered q steps Refused (variables_line p.name)
+  judged : (status : Status) (report : List ℕ) → All IsGroundPoint q.points.points → IsJudged q steps status report → IsAnswered q steps status report
+
+-- how a check of five texts ends: with the first text that doesn't load, or with the answer to the problem that they write
 pub data CheckEnds (t : FiveTexts) (steps : ℕ) : Status → List ℕ → Type 0 where
   unread : (role : Role) → FirstUnread t role → CheckEnds t steps Refused (unread_line role)
-  judged : (q : Problem) (status : Status) (report : List ℕ) → AreTextsOf t q → IsJudged q steps status report → CheckEnds t steps status report
+  answered : (q : Problem) (status : Status) (report : List ℕ) → AreTextsOf t q → IsAnswered q steps status report → CheckEnds t steps status report
 
 -- all five names are held, with these texts
 pub record AllHeld (files : FileMap) (names : Names) (t : FiveTexts) : Type 0 where

@@ -44,6 +44,10 @@ not_grounded_lines test name = not_grounded_line test ++ point_line name
 abbrev pub unread_line : Role → List ℕ
 unread_line role = codes "refused " ++ role_name role ++ codes " unread\n"
 
+-- of points of which the one with this name has variables or conditions
+abbrev pub variables_line : List ℕ → List ℕ
+variables_line name = codes "refused points variables in " ++ point_line name
+
 -- the report of words that have no form
 abbrev pub bad_words_line : List ℕ
 bad_words_line = codes "bad command line\n"

@@ -1,16 +1,16 @@
 // Loads five texts, judges what they say, and answers a status with its report.
-ghost use Rattle.std.specs.Prelude.{◌≡◌, ◌<◌, ◌≤◌, ◌++◌, All, IfOk, Some, length, slice_get};
+ghost use Rattle.std.specs.Prelude.{◌≡◌, ◌<◌, ◌≤◌, ◌++◌, All, IfOk, IfSome, IsNone, Some, length, slice_get};
 ghost use Rattle.sort_term.specs.declared.points.Point.{Point};
 ghost use Rattle.ground_judge.specs.Ground.{IsGroundPoint};
 ghost use Rattle.ground_judge.specs.Kinds.{test_of};
-ghost use Rattle.keq_cli.specs.Outcome.{CheckEnds, IsJudged, texts_of};
+ghost use Rattle.keq_cli.specs.Outcome.{CheckEnds, IsAnswered, IsFirstOpen, IsJudged, texts_of};
 ghost use Rattle.keq_cli.specs.Reports.{not_grounded_line, point_line, unread_line};
 ghost use Rattle.keq_cli.specs.declared.status.Status.{Status};
 
 use crate::loading::{Unloaded, load_all};
 use crate::texts::{Role, Texts};
 use crate::{NoMemory, Status};
-use ground_judge::{FailedTest, VerdictKind};
+use ground_judge::{FailedTest, VerdictKind, is_ground};
 use sort_term::{Point, Problem};
 use std::alloc::Global;
 
@@ -27,10 +27,38 @@ pub fn answer_texts(alloc: Global, texts: &Texts, steps: u32) -> Result<Answer, 
     ensures { IfOk result (λ answer. CheckEnds (texts_of texts.now) steps answer.status answer.report.items) }
 {
     match load_all(alloc, texts) {
-        Ok(problem) => answer_problem(alloc, &problem, steps),
+        Ok(problem) => answer_loaded(alloc, &problem, steps),
         Err(Unloaded::Unread(role)) => unread(alloc, role),
         Err(Unloaded::NoMemory) => Err(NoMemory),
     }
+}
+
+// The refusal of the first point that has variables or conditions, or else the report of the verdict.
+fn answer_loaded(alloc: Global, problem: &Problem, steps: u32) -> Result<Answer, NoMemory>
+    requires { 1 ≤ steps }
+    ensures { IfOk result (λ answer. IsAnswered problem.now steps answer.status answer.report.items) }
+{
+    let points = problem.points.points.as_slice();
+    match first_open(points) {
+        Some(place) => Ok(Answer {
+            status: Status::Refused,
+            report: report_at(alloc, "refused points variables in ", points, place)?,
+        }),
+        None => answer_problem(alloc, problem, steps),
+    }
+}
+
+// The place of the first point that has variables or conditions.
+fn first_open(points: &[Point]) -> Option<usize>
+    ensures some { IfSome result (λ k. (p : Point) × IsFirstOpen points.now k p) }
+    ensures none { IsNone result → All IsGroundPoint points.now }
+{
+    for k in 0..points.len() {
+        if !is_ground(&points[k]) {
+            return Some(k);
+        }
+    }
+    None
 }
 
 // The report of the verdict.

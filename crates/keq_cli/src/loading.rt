@@ -1,9 +1,9 @@
 // Loads the five texts of a check, in the order semantics, programs, points, left before right.
-ghost use Rattle.std.specs.Prelude.{IfOk, IsErrOf};
+ghost use Rattle.std.specs.Prelude.{◌≡◌, IfOk, IsErrOf};
 ghost use Rattle.semantics_load.specs.Text.{IsSemanticsText};
 ghost use Rattle.program_text.specs.Text.{IsProgramText};
 ghost use Rattle.sync_points.specs.Text.{IsPointsText};
-ghost use Rattle.keq_cli.specs.Loading.{RefusesWhere};
+ghost use Rattle.keq_cli.specs.Loading.{RefusesWhere, unloaded_as};
 ghost use Rattle.keq_cli.specs.Outcome.{AreTextsOf, FirstUnread, NoSemantics, NoProgram, NoPoints, texts_of};
 ghost use Rattle.keq_cli.specs.declared.loading.Unloaded.{Unloaded};
 ghost use Rattle.keq_cli.specs.declared.texts.Role.{Role};
@@ -62,8 +62,7 @@ fn semantics<S: Side>(alloc: Global, role: Role, text: &[u8]) -> Result<Semantic
 {
     match load(alloc, text) {
         Ok(semantics) => Ok(semantics),
-        Err(LoadError::Unread) => Err(Unloaded::Unread(role)),
-        Err(LoadError::NoMemory) => Err(Unloaded::NoMemory),
+        Err(error) => Err(named(role, error)),
     }
 }
 
@@ -78,8 +77,7 @@ fn program<S: Side>(
 {
     match load_program(alloc, semantics, text) {
         Ok(program) => Ok(program),
-        Err(LoadError::Unread) => Err(Unloaded::Unread(role)),
-        Err(LoadError::NoMemory) => Err(Unloaded::NoMemory),
+        Err(error) => Err(named(role, error)),
     }
 }
 
@@ -94,7 +92,16 @@ fn points(
 {
     match load_points(alloc, left, right, text) {
         Ok(points) => Ok(points),
-        Err(LoadError::Unread) => Err(Unloaded::Unread(Role::Points)),
-        Err(LoadError::NoMemory) => Err(Unloaded::NoMemory),
+        Err(error) => Err(named(Role::Points, error)),
+    }
+}
+
+// Why a text is not loaded, with its role.
+fn named(role: Role, error: LoadError) -> Unloaded
+    ensures { result ≡ unloaded_as role error }
+{
+    match error {
+        LoadError::Fault(_) => Unloaded::Unread(role),
+        LoadError::NoMemory => Unloaded::NoMemory,
     }
 }

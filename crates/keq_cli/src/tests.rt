@@ -174,7 +174,7 @@ fn words_and_faults(rt: HostRuntime) -> Result<(), Fail> {
 #[test]
 fn texts(rt: HostRuntime) -> Result<(), Fail> {
     let alloc = rt.alloc();
-    let rows: [(&str, &[u8], Status, &str); 12] = [
+    let rows: [(&str, &[u8], Status, &str); 14] = [
         ("rs", ENDS_AT_ONE, Unmatched, "unmatched\npoint begin\n"),
         ("ls", ENDS_AT_ONE, Unmatched, "unmatched\npoint begin\n"),
         ("ls", ENDS_TWICE, Refines, "refines\npoint begin\n"),
@@ -189,7 +189,19 @@ fn texts(rt: HostRuntime) -> Result<(), Fail> {
             "pts",
             POINTS_WITH_VARIABLE,
             Refused,
+            "refused points variables in point begin\n",
+        ),
+        (
+            "pts",
+            b"(point a (vars) (End 0) (End 0)) (point b (vars) (End 0) (End 0) (when false)) (point)",
+            Refused,
             "refused points unread\n",
+        ),
+        (
+            "pts",
+            b"(point a (vars) (End 0) (End 0)) (point b (vars) (End 0) (End 0) (when false))",
+            Refused,
+            "refused points variables in point b\n",
         ),
         ("pts", b"", Refused, "refused points unread\n"),
         ("pts", b"(point", Refused, "refused points unread\n"),

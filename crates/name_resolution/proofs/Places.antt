@@ -71,3 +71,10 @@ module _ {X : Type 0} (key : X → List ℕ) (name : List ℕ) (xs : List X) whe
       by true some =
           let found = Any-from_list_any (λ x. bytes_eq name (key x)) xs some in
           (found.0, found.1, found.2, found.3, sym ((bytes_eq-Decides name (key found.1)).0 found.4))
+
+-- a place is among the names
+pub place_within : (name : List ℕ) (names : List (List ℕ)) (k : ℕ) → place_of name names ≡ Some k → k < length names
+place_within name names k e = by (position_or_len (bytes_eq name) names) (length names) e
+  where
+    by : (n m : ℕ) → cond (nat_lt n m) (Some n) None ≡ Some k → k < m
+    by n m h = grind (arith, nat_tests)

@@ -1,5 +1,9 @@
 pub mod Names
 pub mod Known
-pub mod Reads
+pub mod Named
+pub mod Within
 pub mod Sizes
-pub mod Written
+pub mod Operators
+pub mod Reads
+pub mod Variables
+pub mod Strays

@@ -1,10 +1,9 @@
 // Names by number.
-ghost use Rattle.std.specs.Prelude.{◌≡◌, ◌≢◌, [], ◌∷◌, ◌++◌, None, IfOk, OnErr, IsErrOf};
-ghost use Rattle.rule_text.specs.declared.error.LoadError.{LoadError};
+ghost use Rattle.std.specs.Prelude.{◌≡◌, ◌↔◌, [], ◌∷◌, ◌++◌, if◌then◌else◌, IsTrue, IfOk, OnErr};
 ghost use Rattle.name_resolution.specs.Names.{place_of, IsNew};
 
 use indexmap::IndexSet;
-use rule_text::LoadError;
+use no_memory::NoMemory;
 use sexp_text::Name;
 use std::alloc::Global;
 use std::marker::Model;
@@ -40,19 +39,31 @@ impl NameTable {
         self.words.get_index_of(name.as_slice())
     }
 
-    /// Declares a name. One that is declared already is `Unread`. After an error the names are those before.
-    pub fn declare(&mut self, alloc: Global, name: &Name) -> Result<(), LoadError>
-        ensures is_new { IfOk result (λ _. IsNew name.now self.old) }
-        ensures added { IfOk result (λ _. self.new ≡ self.old ++ name.now ∷ []) }
-        ensures unread { IsErrOf result LoadError.Unread → place_of name.now self.old ≢ None }
+    /// Whether a name is not declared. It takes no memory.
+    pub fn is_new(&self, name: &Name) -> bool
+        ensures { IsTrue result ↔ IsNew name.now self.now }
+    {
+        self.place(name).is_none()
+    }
+
+    /// Declares a name, and tells whether it is new; one that is declared already stays as it is. After an error the names are
+    /// those before.
+    pub fn declare(&mut self, alloc: Global, name: &Name) -> Result<bool, NoMemory>
+        ensures told { IfOk result (λ is_new. IsTrue is_new ↔ IsNew name.now self.old) }
+        ensures added { IfOk result (λ is_new. self.new ≡ (if is_new then self.old ++ name.now ∷ [] else self.old)) }
         ensures kept { OnErr result (self.new ≡ self.old) }
     {
-        let bytes = Vec::from_slice(alloc, name.as_slice())?;
+        self.declare_word(alloc, name.as_slice())
+    }
+
+    /// The same of a name as its bytes.
+    pub(crate) fn declare_word(&mut self, alloc: Global, word: &[u8]) -> Result<bool, NoMemory>
+        ensures told { IfOk result (λ is_new. IsTrue is_new ↔ IsNew word.now self.old) }
+        ensures added { IfOk result (λ is_new. self.new ≡ (if is_new then self.old ++ word.now ∷ [] else self.old)) }
+        ensures kept { OnErr result (self.new ≡ self.old) }
+    {
+        let bytes = Vec::from_slice(alloc, word)?;
         let (_place, is_new) = self.words.insert_full(bytes)?;
-        if is_new {
-            Ok(())
-        } else {
-            Err(LoadError::Unread)
-        }
+        Ok(is_new)
     }
 }

@@ -4,7 +4,7 @@ ghost use Rattle.name_resolution.specs.Sizes.{forms_of};
 
 use rule_text::RawTree;
 
-/// A written pattern or expression has at most this many forms.
+/// A written pattern, expression or ground term has at most this many forms.
 const MOST_FORMS: usize = 4096;
 
 /// Whether a tree was written with at most 4,096 forms: each word, number and list counts.
@@ -20,11 +20,13 @@ fn forms_of(raw: &RawTree) -> usize
     ensures { result ≡ min (forms_of raw.now) 18446744073709551615 }
 {
     match raw {
-        RawTree::Word(_) | RawTree::Number(_) => 1,
+        RawTree::Word(_) | RawTree::Number(_) | RawTree::Flag(_) => 1,
         RawTree::Bits(..) => 4,
-        RawTree::Con(_, args) | RawTree::Op { args, .. } => {
-            forms_of_all(args.as_slice()).saturating_add(2)
-        }
+        RawTree::Map { entries, .. } => entries.len().saturating_mul(3).saturating_add(4),
+        RawTree::Con(_, args) => forms_of_all(args.as_slice()).saturating_add(2),
+        RawTree::Op { numbers, args, .. } => forms_of_all(args.as_slice())
+            .saturating_add(numbers.len())
+            .saturating_add(2),
     }
 }
 

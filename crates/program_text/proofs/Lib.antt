@@ -1,1 +1,5 @@
-mod NoItems
+mod Checks
+mod Keys
+mod RowChecks
+mod StartChecks
+pub mod Programs

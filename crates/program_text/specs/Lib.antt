@@ -1,1 +1,4 @@
+pub mod Grounds
+pub mod Rows
+pub mod States
 pub mod Text

@@ -1,10 +1,16 @@
 pub mod Plain
-mod Lists
+pub mod Lists
 mod Slices
+mod OperatorTable
 pub mod Trees
-mod TreeShapes
-mod ItemShapes
 mod UniqueTrees
-mod UniqueItems
-pub mod Texts
+mod TreeShapes
+mod PartShapes
+mod ItemShapes
+pub mod UniqueItems
+mod Misfits
+pub mod OneEnd
 pub mod Turns
+pub mod Loadings
+pub mod Taking
+pub mod Firsts

@@ -1,5 +1,5 @@
 -- Lists of a known length, by their elements.
-use Rattle.std.proofs.Common.{◌≡◌, ◌+◌, ◌≤◌, ◌<◌, ◌++◌, List, [], ◌∷◌, get_or, length, map, take, drop, ◌-◌, refl, sym, ◌∙◌, ap, arith, add-zero, get_or-drop, length-drop, length-append}
+use Rattle.std.proofs.Common.{◌≡◌, ℕ, zero, suc, ◌+◌, ◌≤◌, ◌<◌, ◌++◌, List, [], ◌∷◌, get_or, length, map, take, drop, ◌-◌, refl, sym, ◌∙◌, ap, arith, add-zero, get_or-drop, length-drop, length-append}
 use Rattle.std.proofs.lemmas.List.{take_all, length-map, take-append-drop}
 
 pub list_1 : {X : Type 0} (xs : List X) (a : X) → 1 ≤ length xs → length xs < 2 → a ≡ get_or xs 0 a → xs ≡ a ∷ []
@@ -57,3 +57,35 @@ list_3_up [] a b c low p q r = absurd (omega arith)
 list_3_up (x ∷ []) a b c low p q r = absurd (omega arith)
 list_3_up (x ∷ y ∷ []) a b c low p q r = absurd (omega arith)
 list_3_up (x ∷ y ∷ z ∷ xs) a b c low p q r = let rest : take (length (x ∷ y ∷ z ∷ xs) - 3) xs ≡ xs = take_all (length (x ∷ y ∷ z ∷ xs) - 3) xs (omega arith) in cc
+
+-- the first of what is made of elements
+pub map_front : {X Y : Type 0} (f : X → Y) (xs : List X) (a : X) (y : Y) (ys : List Y) → 1 ≤ length xs → a ≡ get_or xs 0 a → map f xs ≡ y ∷ ys → f a ≡ y
+map_front f [] a y ys low p e = absurd (omega arith)
+map_front f (x ∷ xs) a y ys low p e = let same : a ≡ x = p in let first : f x ≡ y = cc in ap f same ∙ first
+
+-- what is made of elements up to a place, and from there on
+pub parts_at : {X Y : Type 0} (f : X → Y) (xs : List X) (n : ℕ) (ys zs : List Y) → map f xs ≡ ys ++ zs → n ≡ length ys → (map f (take n xs) ≡ ys) × (map f (drop n xs) ≡ zs)
+parts_at f xs zero [] zs e count = (refl, e)
+parts_at f xs zero (y ∷ ys) zs e count = absurd (omega arith)
+parts_at f xs (suc n) [] zs e count = absurd (omega arith)
+parts_at f [] (suc n) (y ∷ ys) zs e count = absurd cc
+parts_at f (x ∷ xs) (suc n) (y ∷ ys) zs e count =
+    let rest = parts_at f xs n ys zs (cc) (omega arith) in
+    let first : f x ≡ y = cc in
+    let before : map f (take n xs) ≡ ys = rest.0 in (cc, rest.1)
+
+pub list_2_up : {X : Type 0} (xs : List X) (a b : X) → 2 ≤ length xs → a ≡ get_or xs 0 a → b ≡ get_or xs 1 b → xs ≡ a ∷ b ∷ take (length xs - 2) (drop 2 xs)
+list_2_up [] a b low p q = absurd (omega arith)
+list_2_up (x ∷ []) a b low p q = absurd (omega arith)
+list_2_up (x ∷ y ∷ xs) a b low p q = let rest : take (length (x ∷ y ∷ xs) - 2) xs ≡ xs = take_all (length (x ∷ y ∷ xs) - 2) xs (omega arith) in cc
+
+pub list_4_up : {X : Type 0} (xs : List X) (a b c d : X) → 4 ≤ length xs → a ≡ get_or xs 0 a → b ≡ get_or xs 1 b → c ≡ get_or xs 2 c → d ≡ get_or xs 3 d → xs ≡ a ∷ b ∷ c ∷ d ∷ take (length xs - 4) (drop 4 xs)
+list_4_up [] a b c d low p q r s = absurd (omega arith)
+list_4_up (x ∷ []) a b c d low p q r s = absurd (omega arith)
+list_4_up (x ∷ y ∷ []) a b c d low p q r s = absurd (omega arith)
+list_4_up (x ∷ y ∷ z ∷ []) a b c d low p q r s = absurd (omega arith)
+list_4_up (x ∷ y ∷ z ∷ w ∷ xs) a b c d low p q r s = let rest : take (length (x ∷ y ∷ z ∷ w ∷ xs) - 4) xs ≡ xs = take_all (length (x ∷ y ∷ z ∷ w ∷ xs) - 4) xs (omega arith) in cc
+
+-- what stands behind the same first element
+pub behind_word : {X : Type 0} (a : X) (xs ys : List X) → a ∷ xs ≡ a ∷ ys → xs ≡ ys
+behind_word a xs ys e = cc

@@ -1,37 +1,48 @@
 -- Which trees a list of forms is, as the reader of trees takes it apart.
-use Rattle.std.proofs.Common.{◌≡◌, ◌≢◌, ◌≤◌, ◌-◌, ℕ, List, [], ◌∷◌, map, Bool, true, false, not, length, get_or, take, drop, codes, refl, sym, ◌∙◌, ap, subst}
+use Rattle.std.proofs.Common.{◌≡◌, ◌≢◌, ◌≤◌, ◌+◌, ◌-◌, inl, inr, ℕ, List, [], ◌∷◌, ◌++◌, map, Bool, true, false, not, length, get_or, take, drop, codes, refl, sym, ◌∙◌, ap, subst, arith, length-drop, length-append}
 use Rattle.std.specs.List.{AllPass}
-use Rattle.std.proofs.lemmas.List.{length-map}
+use Rattle.std.proofs.lemmas.List.{take_all, map-append, length-map, length-take-le, take-append-drop}
 use Rattle.sexp_text.specs.Printed.{without_spans}
 use Rattle.sexp_text.specs.declared.form.Form.{Form}
 use Rattle.sort_term.specs.Names.{is_reserved_word}
+use Rattle.rule_text.specs.Operators.{is_operator}
 use Rattle.rule_text.specs.Plain.{plain_word, plain_number, plain_list}
-use Rattle.rule_text.specs.Written.{written_node, written_tree}
-use Rattle.rule_text.specs.Lawful.{is_operator, is_lawful_node, is_lawful_tree}
-use Rattle.rule_text.specs.Writes.{WritesTree}
+use Rattle.rule_text.specs.Written.{written_pair, written_node, written_tree}
+use Rattle.rule_text.specs.Lawful.{has_maps, has_operators, is_lawful_node, is_lawful_tree}
+use Rattle.rule_text.specs.Writes.{IsHead, WritesTree}
 use Rattle.rule_text.specs.declared.tree.Place.{Place}
-use Rattle.rule_text.specs.declared.tree.Place.TheVariants.{Pattern, Expression}
 use Rattle.rule_text.specs.declared.item.RawTree.{RawTree}
-use Rattle.rule_text.specs.declared.item.RawTree.TheVariants.{Bits, Con, Op}
+use Rattle.rule_text.specs.declared.item.RawTree.TheVariants.{Bits, Map, Con, Op}
 use Rattle.rule_text.proofs.Plain.{same_word}
 use Rattle.rule_text.proofs.Lists.{list_all_of, and_true}
-use Rattle.rule_text.proofs.Slices.{list_cons}
-use Rattle.rule_text.proofs.Trees.{fold-Bits, fold-Con, fold-Op, ListTree, bits, con, op, list_tree}
+use Rattle.rule_text.proofs.Slices.{list_cons, length_of, parts_at}
+use Rattle.rule_text.proofs.OperatorTable.{op_reserved, one_count, bits_no_operator, map_no_operator, other_word, bits_reserved, map_reserved}
+use Rattle.rule_text.proofs.Trees.{fold-Bits, fold-Map, fold-Con, fold-Op, con_forms, op_forms, ListTree, of_bits, of_map, of_con, of_op, list_tree}
 
 -- a constructor with lawful arguments
-pub con_written : (place : Place) (name : List ℕ) (args : List RawTree) → is_reserved_word name ≡ false → AllPass (is_lawful_tree place) args → WritesTree place (plain_list (plain_word name ∷ map written_tree args)) (Con name args)
+con_written : (place : Place) (name : List ℕ) (args : List RawTree) → is_reserved_word name ≡ false → AllPass (is_lawful_tree place) args → WritesTree place (plain_list (con_forms name args)) (Con name args)
 con_written place name args free all = record {
   spelled = sym (fold-Con Form written_node name args);
   lawful = fold-Con Bool (is_lawful_node place) name args ∙ and_true _ _ (ap not free) (list_all_of (is_lawful_tree place) args all);
 }
 
--- an operator with lawful arguments
-pub op_written : (place : Place) (name : List ℕ) (args : List RawTree) → place ≡ Expression → is_operator name (length args) ≡ true → AllPass (is_lawful_tree place) args → WritesTree place (plain_list (plain_word name ∷ map written_tree args)) (Op name args)
-op_written Pattern name args here takes all = absurd cc
-op_written Expression name args here takes all = record {
-  spelled = sym (fold-Op Form written_node name args);
-  lawful = fold-Op Bool (is_lawful_node Expression) name args ∙ and_true _ _ (ap (is_operator name) (length-map args (is_lawful_tree Expression)) ∙ takes) (list_all_of (is_lawful_tree Expression) args all);
+-- an operator with its numbers and lawful arguments
+op_written : (place : Place) (name numbers : List ℕ) (args : List RawTree) → has_operators place ≡ true → is_operator name (length numbers) (length args) ≡ true → AllPass (is_lawful_tree place) args → WritesTree place (plain_list (op_forms name numbers args)) (Op name numbers args)
+op_written place name numbers args here takes all = record {
+  spelled = sym (fold-Op Form written_node name numbers args);
+  lawful = fold-Op Bool (is_lawful_node place) name numbers args ∙ and_true _ _ here (and_true _ _ (ap (is_operator name (length numbers)) (length-map args (is_lawful_tree place)) ∙ takes) (list_all_of (is_lawful_tree place) args all));
 }
+
+-- a name that isn't reserved stands before arguments alone
+pub con_applied : (place : Place) (name numbers : List ℕ) (args : List RawTree) → is_reserved_word name ≡ false → IsHead place name (length numbers) (length args) → AllPass (is_lawful_tree place) args → WritesTree place (plain_list (op_forms name numbers args)) (Con name args)
+con_applied place name [] args free head all = con_written place name args free all
+con_applied place name (n ∷ numbers) args free (inl con) all = let none : length (n ∷ numbers) ≡ 0 = con.1 in absurd (omega arith)
+con_applied place name (n ∷ numbers) args free (inr op) all = let reserved = op_reserved name _ _ op.1 in absurd cc
+
+-- a reserved name is that of an operator
+pub op_applied : (place : Place) (name numbers : List ℕ) (args : List RawTree) → is_reserved_word name ≡ true → IsHead place name (length numbers) (length args) → AllPass (is_lawful_tree place) args → WritesTree place (plain_list (op_forms name numbers args)) (Op name numbers args)
+op_applied place name numbers args reserved (inl con) all = let free : is_reserved_word name ≡ false = con.0 in absurd cc
+op_applied place name numbers args reserved (inr op) all = op_written place name numbers args op.0 op.1 all
 
 -- the first form of a list and the forms behind it
 pub split_tree : (place : Place) (forms : List Form) (front : Form) (t : RawTree) → 1 ≤ length forms → front ≡ get_or forms 0 front → WritesTree place (plain_list (map without_spans forms)) t → ListTree place (without_spans front ∷ map without_spans (take (length forms - 1) (drop 1 forms))) t
@@ -43,51 +54,112 @@ bits_written place forms front width n low is word numbers =
     let parts : map without_spans forms ≡ plain_word (codes "bits") ∷ plain_number width ∷ plain_number n ∷ [] = ap (map without_spans) (list_cons forms front low is) ∙ cc in
     record { spelled = ap plain_list parts ∙ sym (fold-Bits Form written_node width n); lawful = fold-Bits Bool (is_lawful_node place) width n }
 
-bits_reserved : is_reserved_word (codes "bits") ≡ true
-unfolding is_reserved_word
-bits_reserved = refl
+-- a map
+pub map_written : (place : Place) (rest : List Form) (key word : ℕ) (entries : List (ℕ × ℕ)) → has_maps place ≡ true → rest ≡ plain_number key ∷ plain_number word ∷ map written_pair entries → WritesTree place (plain_list (plain_word (codes "map") ∷ rest)) (Map key word entries)
+map_written place rest key word entries here e = record {
+  spelled = ap (λ fs. plain_list (plain_word (codes "map") ∷ fs)) e ∙ sym (fold-Map Form written_node key word entries);
+  lawful = fold-Map Bool (is_lawful_node place) key word entries ∙ here;
+}
 
--- a constructor's name isn't `bits`
-pub con_no_bits : (name : List ℕ) → name ≡ codes "bits" → is_reserved_word name ≡ false → ⊥
-con_no_bits name e free = let is : is_reserved_word name ≡ true = ap is_reserved_word e ∙ bits_reserved in cc
+pub map_spelled : (parts rest : List Form) (first second : Form) (key word : ℕ) (entries : List (ℕ × ℕ)) → parts ≡ first ∷ second ∷ rest → without_spans first ≡ plain_number key → without_spans second ≡ plain_number word → map without_spans rest ≡ map written_pair entries → map without_spans parts ≡ plain_number key ∷ plain_number word ∷ map written_pair entries
+map_spelled parts rest first second key word entries split k w all = ap (map without_spans) split ∙ cc
 
--- an operator's name isn't `bits`
-pub op_no_bits : (name : List ℕ) (count : ℕ) → name ≡ codes "bits" → is_operator name count ≡ true → ⊥
-op_no_bits name count e takes = let isnt : is_operator name count ≡ false = ap (λ n. is_operator n count) e in cc
+-- what stands behind `map`
+pub map_parts : (place : Place) (rest : List Form) (t : RawTree) → WritesTree place (plain_list (plain_word (codes "map") ∷ rest)) t → (key : ℕ) × (word : ℕ) × (entries : List (ℕ × ℕ)) × (rest ≡ plain_number key ∷ plain_number word ∷ map written_pair entries) × (has_maps place ≡ true)
+map_parts place rest t w = of (list_tree place (plain_word (codes "map") ∷ rest) t w)
+  where
+    of : ListTree place (plain_word (codes "map") ∷ rest) t → (key : ℕ) × (word : ℕ) × (entries : List (ℕ × ℕ)) × (rest ≡ plain_number key ∷ plain_number word ∷ map written_pair entries) × (has_maps place ≡ true)
+    of (of_bits width n e _) = absurd (other_word (codes "map") (codes "bits") refl (same_word _ _ cc))
+    of (of_map key word entries e here _) = (key, word, entries, cc, here)
+    of (of_con name args e free all _) = let reserved : is_reserved_word name ≡ true = ap is_reserved_word (same_word name (codes "map") cc) ∙ map_reserved in absurd cc
+    of (of_op name numbers args e here takes all _) = absurd (map_no_operator (length numbers) (length args) (ap (λ n. is_operator n (length numbers) (length args)) (same_word (codes "map") name cc) ∙ takes))
+
+-- a list of no forms is no tree
+pub no_nothing : (place : Place) (t : RawTree) → ListTree place [] t → ⊥
+no_nothing place t (of_bits width n e _) = cc
+no_nothing place t (of_map key word entries e here _) = cc
+no_nothing place t (of_con name args e free all _) = cc
+no_nothing place t (of_op name numbers args e here takes all _) = cc
+
+-- a name in front of numbers and lawful arguments
+pub record Application (place : Place) (name : List ℕ) (rest : List Form) : Type 0 where
+  pub numbers : List ℕ
+  pub args : List RawTree
+  pub spelled : rest ≡ map plain_number numbers ++ map written_tree args
+  pub head : IsHead place name (length numbers) (length args)
+  pub lawful : AllPass (is_lawful_tree place) args
 
 module _ (place : Place) (front : Form) (rest : List Form) (t : RawTree) where
   -- `bits` goes before two numbers alone
   pub no_bits : front ≡ plain_word (codes "bits") → ((m n : ℕ) → rest ≢ plain_number m ∷ plain_number n ∷ []) → ListTree place (front ∷ rest) t → ⊥
-  no_bits is others (bits width n e _) = others width n cc
-  no_bits is others (con name args e free all _) = con_no_bits name (same_word name (codes "bits") cc) free
-  no_bits is others (op name args e here takes all _) = op_no_bits name (length args) (same_word name (codes "bits") cc) takes
+  no_bits is others (of_bits width n e _) = others width n cc
+  no_bits is others (of_map key word entries e here _) = other_word (codes "bits") (codes "map") refl (same_word _ _ cc)
+  no_bits is others (of_con name args e free all _) = let reserved : is_reserved_word name ≡ true = ap is_reserved_word (same_word name (codes "bits") cc) ∙ bits_reserved in cc
+  no_bits is others (of_op name numbers args e here takes all _) = bits_no_operator (length numbers) (length args) (ap (λ n. is_operator n (length numbers) (length args)) (same_word (codes "bits") name cc) ∙ takes)
 
   -- a list begins with a word
   pub no_front : ((name : List ℕ) → front ≢ plain_word name) → ListTree place (front ∷ rest) t → ⊥
-  no_front others (bits width n e _) = others (codes "bits") cc
-  no_front others (con name args e free all _) = others name cc
-  no_front others (op name args e here takes all _) = others name cc
+  no_front others (of_bits width n e _) = others (codes "bits") cc
+  no_front others (of_map key word entries e here _) = others (codes "map") cc
+  no_front others (of_con name args e free all _) = others name cc
+  no_front others (of_op name numbers args e here takes all _) = others name cc
 
-  -- behind another word than `bits` go lawful trees
-  pub no_args : front ≢ plain_word (codes "bits") → ((args : List RawTree) → rest ≡ map written_tree args → AllPass (is_lawful_tree place) args → ⊥) → ListTree place (front ∷ rest) t → ⊥
-  no_args isnt others (bits width n e _) = isnt cc
-  no_args isnt others (con name args e free all _) = others args (cc) all
-  no_args isnt others (op name args e here takes all _) = others args (cc) all
+  -- behind another word than `bits` and `map` go numbers and lawful arguments
+  pub application : (name : List ℕ) → front ≡ plain_word name → front ≢ plain_word (codes "bits") → front ≢ plain_word (codes "map") → ListTree place (front ∷ rest) t → Application place name rest
+  application name is no_bits no_map (of_bits width n e _) = absurd (no_bits cc)
+  application name is no_bits no_map (of_map key word entries e here _) = absurd (no_map cc)
+  application name is no_bits no_map (of_con other args e free all _) =
+      let same : name ≡ other = same_word name other cc in
+      record { numbers = []; args = args; spelled = cc; head = inl (ap is_reserved_word same ∙ free, refl); lawful = all }
+  application name is no_bits no_map (of_op other numbers args e here takes all _) =
+      let same : name ≡ other = same_word name other cc in
+      record { numbers = numbers; args = args; spelled = cc; head = inr (here, ap (λ n. is_operator n (length numbers) (length args)) same ∙ takes); lawful = all }
 
-  -- a reserved word but `bits` is an operator with its number of arguments, and in no pattern
-  pub no_application : (name : List ℕ) (args : List RawTree) → front ≡ plain_word name → front ≢ plain_word (codes "bits") → rest ≡ map written_tree args → is_reserved_word name ≡ true → (is_operator name (length args) ≡ true → place ≡ Pattern) → ListTree place (front ∷ rest) t → ⊥
-  no_application name args is isnt are reserved pattern (bits width n e _) = isnt cc
-  no_application name args is isnt are reserved pattern (con other others e free all _) =
-      let same : is_reserved_word other ≡ is_reserved_word name = ap is_reserved_word (same_word other name cc) in cc
-  no_application name args is isnt are reserved pattern (op other others e here takes all _) =
-      let same_name : other ≡ name = same_word other name cc in
-      let same_rest : map written_tree others ≡ map written_tree args = cc in
-      let same_count : length others ≡ length args = sym (length-map others written_tree) ∙ ap length same_rest ∙ length-map args written_tree in
-      let takes_too : is_operator name (length args) ≡ true = ap (λ n. is_operator n (length args)) (sym same_name) ∙ ap (is_operator other) (sym same_count) ∙ takes in
-      let there : place ≡ Pattern = pattern takes_too in cc
+-- a name has one number of numbers before so many forms
+one_head : (place : Place) (name : List ℕ) (n a m b : ℕ) → n + a ≡ m + b → IsHead place name n a → IsHead place name m b → n ≡ m
+one_head place name n a m b sum (inl con) (inl con') = con.1 ∙ sym con'.1
+one_head place name n a m b sum (inl con) (inr op) = let free : is_reserved_word name ≡ false = con.0 in let reserved = op_reserved name m b op.1 in absurd cc
+one_head place name n a m b sum (inr op) (inl con) = let free : is_reserved_word name ≡ false = con.0 in let reserved = op_reserved name n a op.1 in absurd cc
+one_head place name n a m b sum (inr op) (inr op') = (one_count name n a m b op.1 op'.1).0
 
--- a list of no forms is no tree
-pub no_nothing : (place : Place) (t : RawTree) → ListTree place [] t → ⊥
-no_nothing place t (bits width n e _) = cc
-no_nothing place t (con name args e free all _) = cc
-no_nothing place t (op name args e here takes all _) = cc
+module _ (place : Place) (name : List ℕ) (rest : List Form) (app : Application place name (map without_spans rest)) where
+  counted : length app.numbers + length app.args ≡ length rest
+  counted = rw (sym (length-map app.numbers plain_number), sym (length-map app.args written_tree)) (sym (length-append (map plain_number app.numbers) (map written_tree app.args)) ∙ ap length (sym app.spelled) ∙ length-map rest without_spans)
+
+  -- there is a number of numbers
+  pub some_count : ((n a : ℕ) → n + a ≡ length rest → ¬ IsHead place name n a) → ⊥
+  some_count none = none (length app.numbers) (length app.args) counted app.head
+
+  module _ (count : ℕ) (within : count ≤ length rest) (head : IsHead place name count (length rest - count)) where
+    parts : (map without_spans (take count rest) ≡ map plain_number app.numbers) × (map without_spans (drop count rest) ≡ map written_tree app.args)
+    parts =
+        let sum = counted in
+        let same : count ≡ length app.numbers = one_head place name count (length rest - count) (length app.numbers) (length app.args) (omega arith) head app.head in
+        parts_at without_spans rest count (map plain_number app.numbers) (map written_tree app.args) app.spelled (same ∙ sym (length-map app.numbers plain_number))
+
+    -- so many forms are the numbers
+    pub numbers_of : map without_spans (take count rest) ≡ map plain_number app.numbers
+    numbers_of = parts.0
+
+    -- and all others the arguments
+    pub args_of : map without_spans (take (length rest - count) (drop count rest)) ≡ map written_tree app.args
+    args_of =
+        let all : length (drop count rest) ≤ length rest - count = simp length-drop (omega arith) in
+        ap (map without_spans) (take_all (length rest - count) (drop count rest) all) ∙ parts.1
+
+-- a name, its numbers and its arguments
+pub all_written : (place : Place) (forms : List Form) (front : Form) (rest : List Form) (name numbers : List ℕ) (args : List RawTree) (count : ℕ) (t : RawTree) → forms ≡ front ∷ rest → without_spans front ≡ plain_word name → count ≤ length rest → IsHead place name count (length rest - count) → map without_spans (take count rest) ≡ map plain_number numbers → map without_spans (take (length rest - count) (drop count rest)) ≡ map written_tree args → (IsHead place name (length numbers) (length args) → WritesTree place (plain_list (op_forms name numbers args)) t) → WritesTree place (plain_list (map without_spans forms)) t
+all_written place forms front rest name numbers args count t split begins within head first second written =
+    let few : length (drop count rest) ≤ length rest - count = simp length-drop (omega arith) in
+    let tail : map without_spans (drop count rest) ≡ map written_tree args = ap (map without_spans) (sym (take_all (length rest - count) (drop count rest) few)) ∙ second in
+    let numbered : length numbers ≡ count = sym (length_of without_spans (take count rest) (map plain_number numbers) first ∙ length-map numbers plain_number) ∙ length-take-le count rest within in
+    let others : length args ≡ length rest - count = sym (length_of without_spans (drop count rest) (map written_tree args) tail ∙ length-map args written_tree) ∙ length-drop count rest in
+    let whole : map without_spans rest ≡ map plain_number numbers ++ map written_tree args = ap (map without_spans) (sym (take-append-drop count rest)) ∙ map-append without_spans (take count rest) (drop count rest) ∙ ap (λ fs. fs ++ map without_spans (drop count rest)) first ∙ ap (λ fs. map plain_number numbers ++ fs) tail in
+    let forms_are : map without_spans forms ≡ op_forms name numbers args = ap (map without_spans) split ∙ cc in
+    let heads : IsHead place name (length numbers) (length args) = subst (λ n. IsHead place name n (length args)) (sym numbered) (subst (IsHead place name count) (sym others) head) in
+    subst (λ fs. WritesTree place (plain_list fs) t) (sym forms_are) (written heads)
+
+-- a reserved word stands before as much as its operator takes
+pub as_operator : (place : Place) (name : List ℕ) (n a m b : ℕ) → is_reserved_word name ≡ true → is_operator name n a ≡ true → IsHead place name m b → (m ≡ n) × (b ≡ a)
+as_operator place name n a m b reserved takes (inl con) = let free : is_reserved_word name ≡ false = con.0 in absurd cc
+as_operator place name n a m b reserved takes (inr op) = one_count name m b n a op.1 takes

@@ -1,8 +1,9 @@
 pub mod Plain
+pub mod Operators
+pub mod Refused
 pub mod Written
 pub mod Lawful
 pub mod Writes
-pub mod ReadErrors
-pub mod Unread
-pub mod Text
 pub mod Turns
+pub mod Faults
+pub mod Shapes

@@ -1,20 +1,64 @@
 -- Which raw items forms write.
-use Rattle.std.specs.Prelude.{◌≡◌, List, ℕ, [], ◌∷◌, ◌++◌, map, All, IsTrue, codes}
+use Rattle.std.specs.Prelude.{◌≡◌, List, ℕ, [], ◌∷◌, ◌++◌, ◌⊎◌, map, length, All, IsTrue, IsFalse, codes}
 use Rattle.sexp_text.specs.Printed.{without_spans}
 use Rattle.sexp_text.specs.declared.form.Form.{Form}
-use Rattle.rule_text.specs.Written.{written_tree, written_demand, front_word, item_parts, written_item}
-use Rattle.rule_text.specs.Lawful.{is_lawful_tree, IsExpression, IsDemand, IsItemOf}
-use Rattle.rule_text.specs.Plain.{plain_word}
+use Rattle.rule_text.specs.Written.{written_sort, written_var, written_vars, written_tree, written_when, written_demand, front_word, item_parts, written_item}
+use Rattle.sort_term.specs.Names.{is_reserved_word}
+use Rattle.rule_text.specs.Operators.{is_operator}
+use Rattle.rule_text.specs.Lawful.{has_operators, is_lawful_tree, IsSort, AreVariables, IsExpression, IsDemand, IsItemOf}
+use Rattle.rule_text.specs.Plain.{plain_word, plain_list}
 use Rattle.rule_text.specs.declared.tree.Place.{Place}
+use Rattle.rule_text.specs.declared.item.RawSort.{RawSort}
+use Rattle.rule_text.specs.declared.item.RawVar.{RawVar}
 use Rattle.rule_text.specs.declared.item.RawTree.{RawTree}
 use Rattle.rule_text.specs.declared.item.RawDemand.{RawDemand}
 use Rattle.rule_text.specs.declared.item.FileKind.{FileKind}
+use Rattle.rule_text.specs.declared.item.FileKind.TheVariants.{Start}
 use Rattle.rule_text.specs.declared.item.Item.{Item}
+
+-- a form without spans is what is written of this sort
+pub record WritesSort (form : Form) (sort : RawSort) : Type 0 where
+  pub spelled : form ≡ written_sort sort
+  pub lawful : IsSort sort
+
+-- a form without spans is what is written of these sorts in a list
+pub record WritesSorts (form : Form) (sorts : List RawSort) : Type 0 where
+  pub spelled : form ≡ plain_list (map written_sort sorts)
+  pub lawful : All IsSort sorts
+
+-- a form without spans is what is written of this variable
+pub record WritesVar (form : Form) (var : RawVar) : Type 0 where
+  pub spelled : form ≡ written_var var
+  pub lawful : IsSort var.sort
+
+-- a form without spans is what is written of these variables
+pub record WritesVars (form : Form) (vars : List RawVar) : Type 0 where
+  pub spelled : form ≡ written_vars vars
+  pub lawful : AreVariables vars
 
 -- a form without spans is what is written of this tree, which may stand in this place
 pub record WritesTree (place : Place) (form : Form) (tree : RawTree) : Type 0 where
   pub spelled : form ≡ written_tree tree
   pub lawful : IsTrue (is_lawful_tree place tree)
+
+-- a word may stand in front of so many numbers and arguments: a constructor's name where no number is, or an operator's
+abbrev pub IsHead : Place → List ℕ → ℕ → ℕ → Type 0
+IsHead place name numbers arguments = (IsFalse (is_reserved_word name) × (numbers ≡ 0)) ⊎ (IsTrue (has_operators place) × IsTrue (is_operator name numbers arguments))
+
+-- a form without spans is what is written of this condition
+pub record WritesWhen (form : Form) (condition : RawTree) : Type 0 where
+  pub spelled : form ≡ written_when condition
+  pub lawful : IsExpression condition
+
+-- forms without spans are what is written of these conditions
+pub record WritesWhens (forms : List Form) (whens : List RawTree) : Type 0 where
+  pub spelled : forms ≡ map written_when whens
+  pub lawful : All IsExpression whens
+
+-- forms without spans are the table and the key of a row
+pub record WritesRow (forms : List Form) (row : List ℕ × RawTree) : Type 0 where
+  pub spelled : forms ≡ plain_word row.0 ∷ written_tree row.1 ∷ []
+  pub lawful : IsExpression row.1
 
 -- a form without spans is what is written of this demand of a rule
 pub record WritesDemand (form : Form) (demand : RawDemand) : Type 0 where
@@ -43,7 +87,12 @@ pub record WritesItem (kind : FileKind) (form : Form) (i : Item) : Type 0 where
   pub spelled : form ≡ written_item i
   pub lawful : IsItemOf kind i
 
--- the forms of a text of this kind, but for their spans, are what is written of these items
-pub record WritesItems (kind : FileKind) (forms : List Form) (items : List Item) : Type 0 where
+-- forms, but for their spans, are what is written of these items of a kind of text, one a form
+pub record AreWritten (kind : FileKind) (forms : List Form) (items : List Item) : Type 0 where
   pub spelled : map without_spans forms ≡ map written_item items
   pub lawful : All (IsItemOf kind) items
+
+-- the forms of a text of this kind are what is written of these items; a start text has one alone
+pub record WritesItems (kind : FileKind) (forms : List Form) (items : List Item) : Type 0 where
+  pub written : AreWritten kind forms items
+  pub one : kind ≡ Start → length items ≡ 1

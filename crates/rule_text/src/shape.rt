@@ -1,146 +1,167 @@
 // The shapes of items.
-ghost use Rattle.std.specs.Prelude.{
-  ◌≡◌,
-  ◌≢◌,
-  ◌↔◌,
-  ℕ,
-  List,
-  [],
-  ◌∷◌,
-  map,
-  codes,
-  IsTrue,
-  IsNone,
-  IsErrOf,
-  IfOk,
-  IfSome,
-};
+ghost use Rattle.std.specs.Prelude.{◌≡◌, ◌≢◌, Bool, List, map, codes, IsErrOf, IsNone, IfOk, IfErr, IfSome};
 ghost use Rattle.sexp_text.specs.Printed.{without_spans};
-ghost use Rattle.sexp_text.specs.declared.form.Form.{Form};
-ghost use Rattle.rule_text.specs.Plain.{plain_word, plain_number, plain_list};
-ghost use Rattle.rule_text.specs.Unread.{UnreadOnlyIfNone};
-ghost use Rattle.rule_text.specs.Writes.{
-  WritesDemand,
-  WritesDemands,
-  WritesOutcome,
-  WritesParts,
-  WritesItem,
-  WritesItems,
-};
-ghost use Rattle.rule_text.specs.Written.{
-  written_sort,
-  written_var,
-  written_vars,
-  side_word,
-};
-ghost use Rattle.rule_text.specs.declared.item.CutSide.{CutSide};
+ghost use Rattle.rule_text.specs.Plain.{plain_word};
+ghost use Rattle.rule_text.specs.Refused.{RefusedOnlyIfNone};
+ghost use Rattle.rule_text.specs.Shapes.{IsShapeError, IsItemsError};
+ghost use Rattle.rule_text.specs.Writes.{WritesOutcome, WritesParts, WritesItem, WritesItems};
+ghost use Rattle.rule_text.specs.Written.{side_word};
 ghost use Rattle.rule_text.specs.declared.item.RawDemand.{RawDemand};
 ghost use Rattle.rule_text.specs.declared.item.RawTree.{RawTree};
 
-use crate::error::LoadError;
-use crate::item::{
-    CutSide, FileKind, Item, ItemList, RawDemand, RawDemands, RawSort, RawSorts, RawTree, RawVar,
-    RawVars,
-};
-use crate::tree::{Place, is_word, list, number, tree, word};
+use crate::error::{ItemError, ItemFault, LoadError, LoadFault};
+use crate::forms::{behind, is_word, number, word};
+use crate::item::{FileKind, Item, ItemList, RawDemands, RawTree};
+use crate::parts::{demands, sort, sorts, vars, whens};
+use crate::refused::ShapeError;
+use crate::tree::{Place, tree};
 use sexp_text::Form;
 use sqlite_items::Items;
 use std::alloc::Global;
 
-/// The items that the forms of a text's top level write, which are the only ones
-/// ([`crate::items_are_unique`]), or `Unread` where they write none. The only other answer is that there was no memory.
+/// The items that the forms of a text's top level write, which are the only ones ([`crate::items_are_unique`]). Else the
+/// answer is the first form of no shape, or that there was no memory.
 pub fn items(alloc: Global, kind: FileKind, forms: &[Form]) -> Result<ItemList, LoadError>
     ensures ok { IfOk result (WritesItems kind forms.now) }
-    ensures unread { UnreadOnlyIfNone result (WritesItems kind forms.now) }
+    ensures fault { IfErr result (IsItemsError kind forms.now) }
+{
+    if kind == FileKind::Start {
+        return start_items(alloc, forms);
+    }
+    all_items(alloc, kind, forms)
+}
+
+// The items of a text that may have many.
+fn all_items(alloc: Global, kind: FileKind, forms: &[Form]) -> Result<ItemList, LoadError>
+    requires many { kind ≢ FileKind.Start }
+    ensures ok { IfOk result (WritesItems kind forms.now) }
+    ensures fault { IfErr result (IsItemsError kind forms.now) }
 {
     let mut items = Items::new(alloc);
-    for form in forms {
-        items.push(item(alloc, kind, form)?)?;
+    for k in 0..forms.len() {
+        match read_item(alloc, kind, &forms[k]) {
+            Ok(item) => items.push(item)?,
+            Err(error) => return Err(error.in_item(k + 1)),
+        }
     }
     Ok(items)
 }
 
-fn item(alloc: Global, kind: FileKind, form: &Form) -> Result<Item, LoadError>
+// The one item of a start text.
+fn start_items(alloc: Global, forms: &[Form]) -> Result<ItemList, LoadError>
+    ensures ok { IfOk result (WritesItems FileKind.Start forms.now) }
+    ensures fault { IfErr result (IsItemsError FileKind.Start forms.now) }
+{
+    let [form, rest @ ..] = forms else {
+        return Err(LoadError::Fault(LoadFault::Shape { item: 1 }));
+    };
+    let item = match read_item(alloc, FileKind::Start, form) {
+        Ok(item) => item,
+        Err(error) => return Err(error.in_item(1)),
+    };
+    if !rest.is_empty() {
+        return Err(LoadError::Fault(LoadFault::Shape { item: 2 }));
+    }
+    let mut items = Items::new(alloc);
+    items.push(item)?;
+    Ok(items)
+}
+
+/// The item that a form writes, which is the only one ([`crate::forms_write_one_item`]). Else the answer is that it is the
+/// form of none, or that there was no memory.
+pub fn read_item(alloc: Global, kind: FileKind, form: &Form) -> Result<Item, ItemError>
     ensures ok { IfOk result (WritesItem kind (without_spans form.now)) }
-    ensures unread { UnreadOnlyIfNone result (WritesItem kind (without_spans form.now)) }
+    ensures fault { IfErr result (IsShapeError kind (without_spans form.now)) }
+{
+    match item(alloc, kind, form) {
+        Ok(item) => Ok(item),
+        Err(ShapeError::NoItem) => Err(ItemError::Fault(ItemFault::Shape)),
+        Err(ShapeError::NoMemory) => Err(ItemError::NoMemory),
+    }
+}
+
+fn item(alloc: Global, kind: FileKind, form: &Form) -> Result<Item, ShapeError>
+    ensures ok { IfOk result (WritesItem kind (without_spans form.now)) }
+    ensures refused { RefusedOnlyIfNone result (WritesItem kind (without_spans form.now)) }
 {
     match kind {
         FileKind::Semantics => semantics_item(alloc, form),
-        FileKind::Program => Err(LoadError::Unread),
+        FileKind::Program => program_item(alloc, form),
         FileKind::Points => points_item(alloc, form),
+        FileKind::Start => start_item(alloc, form),
     }
 }
 
-fn semantics_item(alloc: Global, form: &Form) -> Result<Item, LoadError>
+fn semantics_item(alloc: Global, form: &Form) -> Result<Item, ShapeError>
     ensures ok { IfOk result (WritesItem FileKind.Semantics (without_spans form.now)) }
-    ensures unread { UnreadOnlyIfNone result (WritesItem FileKind.Semantics (without_spans form.now)) }
+    ensures refused { RefusedOnlyIfNone result (WritesItem FileKind.Semantics (without_spans form.now)) }
 {
-    let Some((front, parts)) = split(form) else {
-        return Err(LoadError::Unread);
-    };
-    if is_word(front, "sort") {
+    if let Some(parts) = behind(form, "sort") {
         return sort_item(alloc, parts);
     }
-    if is_word(front, "con") {
+    if let Some(parts) = behind(form, "con") {
         return con_item(alloc, parts);
     }
-    if is_word(front, "config") {
+    if let Some(parts) = behind(form, "table") {
+        return table_item(alloc, parts);
+    }
+    if let Some(parts) = behind(form, "config") {
         return config_item(alloc, parts);
     }
-    if is_word(front, "rule") {
+    if let Some(parts) = behind(form, "rule") {
         return rule_item(alloc, parts);
     }
-    Err(LoadError::Unread)
+    Err(ShapeError::NoItem)
 }
 
-fn points_item(alloc: Global, form: &Form) -> Result<Item, LoadError>
-    ensures ok { IfOk result (WritesItem FileKind.Points (without_spans form.now)) }
-    ensures unread { UnreadOnlyIfNone result (WritesItem FileKind.Points (without_spans form.now)) }
+fn program_item(alloc: Global, form: &Form) -> Result<Item, ShapeError>
+    ensures ok { IfOk result (WritesItem FileKind.Program (without_spans form.now)) }
+    ensures refused { RefusedOnlyIfNone result (WritesItem FileKind.Program (without_spans form.now)) }
 {
-    let Some((front, parts)) = split(form) else {
-        return Err(LoadError::Unread);
-    };
-    if is_word(front, "cut") {
+    if let Some(parts) = behind(form, "row") {
+        return row_item(alloc, parts);
+    }
+    Err(ShapeError::NoItem)
+}
+
+fn points_item(alloc: Global, form: &Form) -> Result<Item, ShapeError>
+    ensures ok { IfOk result (WritesItem FileKind.Points (without_spans form.now)) }
+    ensures refused { RefusedOnlyIfNone result (WritesItem FileKind.Points (without_spans form.now)) }
+{
+    if let Some(parts) = behind(form, "cut") {
         return cut_item(alloc, parts);
     }
-    if is_word(front, "point") {
+    if let Some(parts) = behind(form, "point") {
         return point_item(alloc, parts);
     }
-    Err(LoadError::Unread)
+    Err(ShapeError::NoItem)
 }
 
-// A list's first form and the forms behind it.
-fn split(form: &Form) -> Option<(&Form, &[Form])>
-    ensures some { IfSome result
-        (λ parts. without_spans form.now ≡ plain_list (without_spans parts.0.now ∷ map without_spans parts.1.now)) }
-    ensures none { IsNone result →
-        (front : Form) (rest : List Form) → without_spans form.now ≢ plain_list (front ∷ rest) }
+fn start_item(alloc: Global, form: &Form) -> Result<Item, ShapeError>
+    ensures ok { IfOk result (WritesItem FileKind.Start (without_spans form.now)) }
+    ensures refused { RefusedOnlyIfNone result (WritesItem FileKind.Start (without_spans form.now)) }
 {
-    let Some(forms) = list(form) else {
-        return None;
-    };
-    let [front, rest @ ..] = forms else {
-        return None;
-    };
-    Some((front, rest))
+    let term = tree(alloc, Place::Ground, form)?;
+    Ok(Item::Start(term))
 }
 
-fn sort_item(alloc: Global, parts: &[Form]) -> Result<Item, LoadError>
+fn sort_item(alloc: Global, parts: &[Form]) -> Result<Item, ShapeError>
     ensures ok { IfOk result (WritesParts FileKind.Semantics (codes "sort") (map without_spans parts.now)) }
-    ensures unread { UnreadOnlyIfNone result (WritesParts FileKind.Semantics (codes "sort") (map without_spans parts.now)) }
+    ensures refused { RefusedOnlyIfNone result (WritesParts FileKind.Semantics (codes "sort") (map without_spans parts.now)) }
 {
-    match parts {
-        [name] => Ok(Item::Sort(word(alloc, name)?)),
-        _ => Err(LoadError::Unread),
-    }
+    let [name] = parts else {
+        return Err(ShapeError::NoItem);
+    };
+    let name = word(alloc, name)?;
+    Ok(Item::Sort(name))
 }
 
-fn con_item(alloc: Global, parts: &[Form]) -> Result<Item, LoadError>
+fn con_item(alloc: Global, parts: &[Form]) -> Result<Item, ShapeError>
     ensures ok { IfOk result (WritesParts FileKind.Semantics (codes "con") (map without_spans parts.now)) }
-    ensures unread { UnreadOnlyIfNone result (WritesParts FileKind.Semantics (codes "con") (map without_spans parts.now)) }
+    ensures refused { RefusedOnlyIfNone result (WritesParts FileKind.Semantics (codes "con") (map without_spans parts.now)) }
 {
     let [name, args, sort] = parts else {
-        return Err(LoadError::Unread);
+        return Err(ShapeError::NoItem);
     };
     let name = word(alloc, name)?;
     let args = sorts(alloc, args)?;
@@ -148,22 +169,38 @@ fn con_item(alloc: Global, parts: &[Form]) -> Result<Item, LoadError>
     Ok(Item::Con { name, args, sort })
 }
 
-fn config_item(alloc: Global, parts: &[Form]) -> Result<Item, LoadError>
-    ensures ok { IfOk result (WritesParts FileKind.Semantics (codes "config") (map without_spans parts.now)) }
-    ensures unread { UnreadOnlyIfNone result (WritesParts FileKind.Semantics (codes "config") (map without_spans parts.now)) }
+fn table_item(alloc: Global, parts: &[Form]) -> Result<Item, ShapeError>
+    ensures ok { IfOk result (WritesParts FileKind.Semantics (codes "table") (map without_spans parts.now)) }
+    ensures refused { RefusedOnlyIfNone result (WritesParts FileKind.Semantics (codes "table") (map without_spans parts.now)) }
 {
-    match parts {
-        [name] => Ok(Item::Config(word(alloc, name)?)),
-        _ => Err(LoadError::Unread),
-    }
+    let [name, key, written] = parts else {
+        return Err(ShapeError::NoItem);
+    };
+    let Some(key) = number(key) else {
+        return Err(ShapeError::NoItem);
+    };
+    let name = word(alloc, name)?;
+    let sort = sort(alloc, written)?;
+    Ok(Item::Table { name, key, sort })
 }
 
-fn rule_item(alloc: Global, parts: &[Form]) -> Result<Item, LoadError>
+fn config_item(alloc: Global, parts: &[Form]) -> Result<Item, ShapeError>
+    ensures ok { IfOk result (WritesParts FileKind.Semantics (codes "config") (map without_spans parts.now)) }
+    ensures refused { RefusedOnlyIfNone result (WritesParts FileKind.Semantics (codes "config") (map without_spans parts.now)) }
+{
+    let [name] = parts else {
+        return Err(ShapeError::NoItem);
+    };
+    let name = word(alloc, name)?;
+    Ok(Item::Config(name))
+}
+
+fn rule_item(alloc: Global, parts: &[Form]) -> Result<Item, ShapeError>
     ensures ok { IfOk result (WritesParts FileKind.Semantics (codes "rule") (map without_spans parts.now)) }
-    ensures unread { UnreadOnlyIfNone result (WritesParts FileKind.Semantics (codes "rule") (map without_spans parts.now)) }
+    ensures refused { RefusedOnlyIfNone result (WritesParts FileKind.Semantics (codes "rule") (map without_spans parts.now)) }
 {
     let [name, variables, head, rest @ ..] = parts else {
-        return Err(LoadError::Unread);
+        return Err(ShapeError::NoItem);
     };
     let name = word(alloc, name)?;
     let vars = vars(alloc, variables)?;
@@ -179,186 +216,92 @@ fn rule_item(alloc: Global, parts: &[Form]) -> Result<Item, LoadError>
 }
 
 // The demands of a rule, and its result behind `=>`.
-fn outcome(alloc: Global, forms: &[Form]) -> Result<(RawDemands, RawTree), LoadError>
+fn outcome(alloc: Global, forms: &[Form]) -> Result<(RawDemands, RawTree), ShapeError>
     ensures ok { IfOk result (λ end. WritesOutcome (map without_spans forms.now) end.0 end.1) }
-    ensures unread { IsErrOf result LoadError.Unread →
+    ensures refused { IsErrOf result ShapeError.NoItem →
         (demands : List RawDemand) (outcome : RawTree) →
         ¬ WritesOutcome (map without_spans forms.now) demands outcome }
 {
-    let [whens @ .., arrow, outcome] = forms else {
-        return Err(LoadError::Unread);
+    let [front @ .., arrow, outcome] = forms else {
+        return Err(ShapeError::NoItem);
     };
     if !is_word(arrow, "=>") {
-        return Err(LoadError::Unread);
+        return Err(ShapeError::NoItem);
     }
-    let demands = demands(alloc, whens)?;
+    let demands = demands(alloc, front)?;
     let outcome = tree(alloc, Place::Expression, outcome)?;
     Ok((demands, outcome))
 }
 
-fn cut_item(alloc: Global, parts: &[Form]) -> Result<Item, LoadError>
-    ensures ok { IfOk result (WritesParts FileKind.Points (codes "cut") (map without_spans parts.now)) }
-    ensures unread { UnreadOnlyIfNone result (WritesParts FileKind.Points (codes "cut") (map without_spans parts.now)) }
+fn row_item(alloc: Global, parts: &[Form]) -> Result<Item, ShapeError>
+    ensures ok { IfOk result (WritesParts FileKind.Program (codes "row") (map without_spans parts.now)) }
+    ensures refused { RefusedOnlyIfNone result (WritesParts FileKind.Program (codes "row") (map without_spans parts.now)) }
 {
-    let [side, name, variables, pattern] = parts else {
-        return Err(LoadError::Unread);
+    let [table, key, term] = parts else {
+        return Err(ShapeError::NoItem);
     };
-    let Some(side) = cut_side(side) else {
-        return Err(LoadError::Unread);
+    let Some(key) = number(key) else {
+        return Err(ShapeError::NoItem);
+    };
+    let table = word(alloc, table)?;
+    let term = tree(alloc, Place::Ground, term)?;
+    Ok(Item::Row { table, key, term })
+}
+
+fn cut_item(alloc: Global, parts: &[Form]) -> Result<Item, ShapeError>
+    ensures ok { IfOk result (WritesParts FileKind.Points (codes "cut") (map without_spans parts.now)) }
+    ensures refused { RefusedOnlyIfNone result (WritesParts FileKind.Points (codes "cut") (map without_spans parts.now)) }
+{
+    let [side, name, variables, pattern, rest @ ..] = parts else {
+        return Err(ShapeError::NoItem);
+    };
+    let Some(left) = is_left(side) else {
+        return Err(ShapeError::NoItem);
     };
     let name = word(alloc, name)?;
     let vars = vars(alloc, variables)?;
     let pattern = tree(alloc, Place::Pattern, pattern)?;
+    let whens = whens(alloc, rest)?;
     Ok(Item::Cut {
-        side,
+        left,
         name,
         vars,
         pattern,
+        whens,
     })
 }
 
-fn cut_side(form: &Form) -> Option<CutSide>
-    ensures some { IfSome result (λ side. without_spans form.now ≡ plain_word (side_word side)) }
-    ensures none { IsNone result →
-        (side : CutSide) → without_spans form.now ≢ plain_word (side_word side) }
+// Whether a side is the left one, where it is a side.
+fn is_left(form: &Form) -> Option<bool>
+    ensures some { IfSome result (λ left. without_spans form.now ≡ plain_word (side_word left)) }
+    ensures none { IsNone result → (left : Bool) → without_spans form.now ≢ plain_word (side_word left) }
 {
     if is_word(form, "left") {
-        return Some(CutSide::Left);
+        return Some(true);
     }
     if is_word(form, "right") {
-        return Some(CutSide::Right);
+        return Some(false);
     }
     None
 }
 
-fn point_item(alloc: Global, parts: &[Form]) -> Result<Item, LoadError>
+fn point_item(alloc: Global, parts: &[Form]) -> Result<Item, ShapeError>
     ensures ok { IfOk result (WritesParts FileKind.Points (codes "point") (map without_spans parts.now)) }
-    ensures unread { UnreadOnlyIfNone result (WritesParts FileKind.Points (codes "point") (map without_spans parts.now)) }
+    ensures refused { RefusedOnlyIfNone result (WritesParts FileKind.Points (codes "point") (map without_spans parts.now)) }
 {
-    let [name, variables, left, right] = parts else {
-        return Err(LoadError::Unread);
+    let [name, variables, left, right, rest @ ..] = parts else {
+        return Err(ShapeError::NoItem);
     };
-    if !is_no_vars(variables) {
-        return Err(LoadError::Unread);
-    }
     let name = word(alloc, name)?;
+    let vars = vars(alloc, variables)?;
     let left = tree(alloc, Place::Expression, left)?;
     let right = tree(alloc, Place::Expression, right)?;
-    Ok(Item::Point { name, left, right })
-}
-
-// Whether a form is `(vars)`.
-fn is_no_vars(form: &Form) -> bool
-    ensures { IsTrue result ↔ (without_spans form.now ≡ written_vars []) }
-{
-    let Some(forms) = list(form) else {
-        return false;
-    };
-    match forms {
-        [front] => is_word(front, "vars"),
-        _ => false,
-    }
-}
-
-fn sort(alloc: Global, form: &Form) -> Result<RawSort, LoadError>
-    ensures ok { IfOk result (λ sort. without_spans form.now ≡ written_sort sort) }
-    ensures unread { UnreadOnlyIfNone result (λ sort. without_spans form.now ≡ written_sort sort) }
-{
-    let Some(forms) = list(form) else {
-        return Ok(RawSort::Named(word(alloc, form)?));
-    };
-    match width(forms) {
-        Some(width) => Ok(RawSort::Bits(width)),
-        None => Err(LoadError::Unread),
-    }
-}
-
-// The number behind `bits`.
-fn width(forms: &[Form]) -> Option<u64>
-    ensures some { IfSome result
-        (λ width. map without_spans forms.now ≡ plain_word (codes "bits") ∷ plain_number width ∷ []) }
-    ensures none { IsNone result →
-        (width : ℕ) →
-        map without_spans forms.now ≢ plain_word (codes "bits") ∷ plain_number width ∷ [] }
-{
-    match forms {
-        [front, width] if is_word(front, "bits") => number(width),
-        _ => None,
-    }
-}
-
-// The sorts of a list.
-fn sorts(alloc: Global, form: &Form) -> Result<RawSorts, LoadError>
-    ensures ok { IfOk result
-        (λ sorts. without_spans form.now ≡ plain_list (map written_sort sorts)) }
-    ensures unread { UnreadOnlyIfNone result (λ sorts. without_spans form.now ≡ plain_list (map written_sort sorts)) }
-{
-    let Some(forms) = list(form) else {
-        return Err(LoadError::Unread);
-    };
-    let mut sorts = Items::new(alloc);
-    for form in forms {
-        sorts.push(sort(alloc, form)?)?;
-    }
-    Ok(sorts)
-}
-
-// The variables of a list that begins with `vars`.
-fn vars(alloc: Global, form: &Form) -> Result<RawVars, LoadError>
-    ensures ok { IfOk result (λ vars. without_spans form.now ≡ written_vars vars) }
-    ensures unread { UnreadOnlyIfNone result (λ vars. without_spans form.now ≡ written_vars vars) }
-{
-    let Some((front, pairs)) = split(form) else {
-        return Err(LoadError::Unread);
-    };
-    if !is_word(front, "vars") {
-        return Err(LoadError::Unread);
-    }
-    let mut vars = Items::new(alloc);
-    for pair in pairs {
-        vars.push(var(alloc, pair)?)?;
-    }
-    Ok(vars)
-}
-
-fn var(alloc: Global, form: &Form) -> Result<RawVar, LoadError>
-    ensures ok { IfOk result (λ var. without_spans form.now ≡ written_var var) }
-    ensures unread { UnreadOnlyIfNone result (λ var. without_spans form.now ≡ written_var var) }
-{
-    let Some(forms) = list(form) else {
-        return Err(LoadError::Unread);
-    };
-    match forms {
-        [name, written] => Ok(RawVar {
-            name: word(alloc, name)?,
-            sort: sort(alloc, written)?,
-        }),
-        _ => Err(LoadError::Unread),
-    }
-}
-
-fn demands(alloc: Global, forms: &[Form]) -> Result<RawDemands, LoadError>
-    ensures ok { IfOk result (WritesDemands (map without_spans forms.now)) }
-    ensures unread { UnreadOnlyIfNone result (WritesDemands (map without_spans forms.now)) }
-{
-    let mut demands = Items::new(alloc);
-    for form in forms {
-        demands.push(demand(alloc, form)?)?;
-    }
-    Ok(demands)
-}
-
-fn demand(alloc: Global, form: &Form) -> Result<RawDemand, LoadError>
-    ensures ok { IfOk result (WritesDemand (without_spans form.now)) }
-    ensures unread { UnreadOnlyIfNone result (WritesDemand (without_spans form.now)) }
-{
-    let Some(forms) = list(form) else {
-        return Err(LoadError::Unread);
-    };
-    match forms {
-        [front, condition] if is_word(front, "when") => {
-            Ok(RawDemand::When(tree(alloc, Place::Expression, condition)?))
-        }
-        _ => Err(LoadError::Unread),
-    }
+    let whens = whens(alloc, rest)?;
+    Ok(Item::Point {
+        name,
+        vars,
+        left,
+        right,
+        whens,
+    })
 }

@@ -1,145 +1,154 @@
-// The shapes of patterns and expressions.
+// The shapes of patterns, expressions and ground terms.
 ghost use Rattle.std.specs.Prelude.{
   ◌≡◌,
   ◌≢◌,
-  ◌↔◌,
+  ◌≤◌,
+  ◌+◌,
+  ◌-◌,
   ℕ,
-  List,
+  Bool,
   [],
   ◌∷◌,
+  ◌++◌,
   map,
   length,
-  IsTrue,
+  codes,
   IsNone,
   IfOk,
   IfSome,
 };
 ghost use Rattle.std.specs.List.{AllPass};
 ghost use Rattle.sexp_text.specs.Printed.{without_spans};
-ghost use Rattle.sexp_text.specs.declared.form.Form.{Form};
-ghost use Rattle.rule_text.specs.Lawful.{is_lawful_tree, is_operator};
-ghost use Rattle.sort_term.specs.Names.{is_reserved_word};
+ghost use Rattle.rule_text.specs.Lawful.{is_lawful_tree};
 ghost use Rattle.rule_text.specs.Plain.{plain_word, plain_number, plain_list};
-ghost use Rattle.rule_text.specs.Unread.{UnreadOnlyIfNone};
-ghost use Rattle.rule_text.specs.Writes.{WritesTree};
-ghost use Rattle.rule_text.specs.Written.{written_tree};
+ghost use Rattle.rule_text.specs.Refused.{RefusedOnlyIfNone};
+ghost use Rattle.rule_text.specs.Writes.{IsHead, WritesTree};
+ghost use Rattle.rule_text.specs.Written.{flag_word, written_pair, written_tree};
 
-use crate::error::LoadError;
-use crate::item::{RawTree, RawTrees};
+use crate::forms::{is_reserved, is_word, list, number, number_pair, numbers, word};
+use crate::item::{NumberPairs, Numbers, RawTree, RawTrees};
+use crate::operators::operator;
+use crate::refused::ShapeError;
 use sexp_text::{Form, FormKind, Name};
 use sqlite_items::Items;
 use std::alloc::Global;
 
-/// Where a tree is written: a pattern has no operators.
+/// Where a tree is written: a pattern has no operators and no maps, a ground term no operators.
 #[derive(Clone, Copy, Debug, PartialEq, Eq)]
 pub enum Place {
     Pattern,
     Expression,
+    Ground,
 }
 
-// Whether a word is reserved.
-fn is_reserved(name: &Name) -> bool
-    ensures { result ≡ is_reserved_word name.now }
-{
-    sort_term::is_reserved(name.as_slice())
-}
-
-/// A copy of a word.
-pub fn word(alloc: Global, form: &Form) -> Result<Name, LoadError>
-    ensures ok { IfOk result (λ name. without_spans form.now ≡ plain_word name) }
-    ensures unread { UnreadOnlyIfNone result (λ name. without_spans form.now ≡ plain_word name) }
-{
-    match &form.kind {
-        FormKind::Word(name) => Ok(name.copy(alloc)?),
-        _ => Err(LoadError::Unread),
-    }
-}
-
-/// A number.
-pub fn number(form: &Form) -> Option<u64>
-    ensures number { IfSome result (λ n. without_spans form.now ≡ plain_number n) }
-    ensures other { IsNone result → (n : ℕ) → without_spans form.now ≢ plain_number n }
-{
-    match &form.kind {
-        FormKind::Number(number) => Some(*number),
-        _ => None,
-    }
-}
-
-/// The forms of a list.
-pub fn list(form: &Form) -> Option<&[Form]>
-    ensures list { IfSome result
-        (λ forms. without_spans form.now ≡ plain_list (map without_spans forms.now)) }
-    ensures other { IsNone result →
-        (forms : List Form) → without_spans form.now ≢ plain_list forms }
-{
-    match &form.kind {
-        FormKind::List(forms) => Some(forms.as_slice()),
-        _ => None,
-    }
-}
-
-/// Whether a form is this word.
-pub fn is_word(form: &Form, word: &str) -> bool
-    ensures { IsTrue result ↔ (without_spans form.now ≡ plain_word word.now) }
-{
-    match &form.kind {
-        FormKind::Word(name) => name.as_slice() == word.as_bytes(),
-        _ => false,
-    }
-}
-// The two numbers that the forms are.
-fn number_pair(forms: &[Form]) -> Option<(u64, u64)>
-    ensures some { IfSome result
-        (λ pair. map without_spans forms.now ≡ plain_number pair.0 ∷ plain_number pair.1 ∷ []) }
-    ensures none { IsNone result →
-        (m n : ℕ) → map without_spans forms.now ≢ plain_number m ∷ plain_number n ∷ [] }
-{
-    let [first, second] = forms else {
-        return None;
-    };
-    Some((number(first)?, number(second)?))
-}
-
-// Whether this is an operator of the first form with the number of its arguments.
-fn is_operator(name: &Name, count: usize) -> bool
-    ensures { result ≡ is_operator name.now count }
+// The truth value that a word writes.
+fn flag(name: &Name) -> Option<bool>
+    ensures some { IfSome result (λ flag. name.now ≡ flag_word flag) }
+    ensures none { IsNone result → (flag : Bool) → name.now ≢ flag_word flag }
 {
     let name = name.as_slice();
-    match count {
-        1 => name == "not".as_bytes(),
-        2 => name == "eq".as_bytes() || name == "sub".as_bytes(),
-        _ => false,
+    if name == "true".as_bytes() {
+        return Some(true);
     }
-}
-
-// A constructor or an operator with its arguments.
-fn applied(place: Place, name: Name, args: RawTrees) -> Option<RawTree>
-    ensures some { IfSome result (λ tree. AllPass (is_lawful_tree place) args →
-        WritesTree place (plain_list (plain_word name ∷ map written_tree args)) tree) }
-    ensures none { IsNone result →
-        IsTrue (is_reserved_word name) × (IsTrue (is_operator name (length args)) →
-        place ≡ Place.Pattern) }
-{
-    if !is_reserved(&name) {
-        return Some(RawTree::Con(name, args));
-    }
-    if place == Place::Expression && is_operator(&name, args.len()) {
-        return Some(RawTree::Op { name, args });
+    if name == "false".as_bytes() {
+        return Some(false);
     }
     None
 }
 
+// The two numbers of a map's entry.
+fn entry(form: &Form) -> Option<(u64, u64)>
+    ensures some { IfSome result (λ pair. without_spans form.now ≡ written_pair pair) }
+    ensures none { IsNone result → (pair : ℕ × ℕ) → without_spans form.now ≢ written_pair pair }
+{
+    number_pair(list(form)?)
+}
+
+// The entries of a map.
+fn entries(alloc: Global, forms: &[Form]) -> Result<NumberPairs, ShapeError>
+    ensures ok { IfOk result (λ pairs. map without_spans forms.now ≡ map written_pair pairs) }
+    ensures refused { RefusedOnlyIfNone result (λ pairs. map without_spans forms.now ≡ map written_pair pairs) }
+{
+    let mut pairs = Items::new(alloc);
+    for form in forms {
+        let Some(pair) = entry(form) else {
+            return Err(ShapeError::NoItem);
+        };
+        pairs.push(pair)?;
+    }
+    Ok(pairs)
+}
+
+// The map whose widths and entries stand behind `map`.
+fn map_tree(alloc: Global, place: Place, parts: &[Form]) -> Result<RawTree, ShapeError>
+    ensures ok { IfOk result (WritesTree place (plain_list (plain_word (codes "map") ∷ map without_spans parts.now))) }
+    ensures refused { RefusedOnlyIfNone result
+        (WritesTree place (plain_list (plain_word (codes "map") ∷ map without_spans parts.now))) }
+{
+    if place == Place::Pattern {
+        return Err(ShapeError::NoItem);
+    }
+    let [key, word, rest @ ..] = parts else {
+        return Err(ShapeError::NoItem);
+    };
+    let Some(key) = number(key) else {
+        return Err(ShapeError::NoItem);
+    };
+    let Some(word) = number(word) else {
+        return Err(ShapeError::NoItem);
+    };
+    let entries = entries(alloc, rest)?;
+    Ok(RawTree::Map { key, word, entries })
+}
+
+// How many of so many forms behind a name are its numbers, where all others are its arguments.
+fn number_count(place: Place, name: &Name, forms: usize) -> Option<usize>
+    ensures some { IfSome result (λ count. (count ≤ forms) × IsHead place name.now count (forms - count)) }
+    ensures none { IsNone result → (numbers arguments : ℕ) →
+        numbers + arguments ≡ forms → ¬ IsHead place name.now numbers arguments }
+{
+    if !is_reserved(name) {
+        return Some(0);
+    }
+    if place != Place::Expression {
+        return None;
+    }
+    let (numbers, arguments) = operator(name.as_slice())?;
+    if numbers <= forms && forms - numbers == arguments {
+        return Some(numbers);
+    }
+    None
+}
+
+// A constructor or an operator with its numbers and arguments.
+fn applied(name: Name, numbers: Numbers, args: RawTrees) -> RawTree
+    ensures { (place : Place) → IsHead place name (length numbers) (length args) →
+        AllPass (is_lawful_tree place) args →
+        WritesTree place (plain_list (plain_word name ∷ (map plain_number numbers ++ map written_tree args))) result }
+{
+    if is_reserved(&name) {
+        return RawTree::Op {
+            name,
+            numbers,
+            args,
+        };
+    }
+    RawTree::Con(name, args)
+}
+
 /// The tree that a form writes.
 #[cycle(tree)]
-pub fn tree(alloc: Global, place: Place, form: &Form) -> Result<RawTree, LoadError>
+pub fn tree(alloc: Global, place: Place, form: &Form) -> Result<RawTree, ShapeError>
     ensures ok { IfOk result (WritesTree place (without_spans form.now)) }
-    ensures unread { UnreadOnlyIfNone result (WritesTree place (without_spans form.now)) }
+    ensures refused { RefusedOnlyIfNone result (WritesTree place (without_spans form.now)) }
 {
     match &form.kind {
         FormKind::Word(name) => {
+            if let Some(flag) = flag(name) {
+                return Ok(RawTree::Flag(flag));
+            }
             if is_reserved(name) {
-                return Err(LoadError::Unread);
+                return Err(ShapeError::NoItem);
             }
             Ok(RawTree::Word(name.copy(alloc)?))
         }
@@ -150,26 +159,30 @@ pub fn tree(alloc: Global, place: Place, form: &Form) -> Result<RawTree, LoadErr
 
 // The tree that a list of forms writes.
 #[cycle(tree)]
-fn list_tree(alloc: Global, place: Place, forms: &[Form]) -> Result<RawTree, LoadError>
+fn list_tree(alloc: Global, place: Place, forms: &[Form]) -> Result<RawTree, ShapeError>
     ensures ok { IfOk result (WritesTree place (plain_list (map without_spans forms.now))) }
-    ensures unread { UnreadOnlyIfNone result (WritesTree place (plain_list (map without_spans forms.now))) }
+    ensures refused { RefusedOnlyIfNone result (WritesTree place (plain_list (map without_spans forms.now))) }
 {
     let [front, rest @ ..] = forms else {
-        return Err(LoadError::Unread);
+        return Err(ShapeError::NoItem);
     };
     if is_word(front, "bits") {
         let Some((width, number)) = number_pair(rest) else {
-            return Err(LoadError::Unread);
+            return Err(ShapeError::NoItem);
         };
         return Ok(RawTree::Bits(width, number));
     }
+    if is_word(front, "map") {
+        return map_tree(alloc, place, rest);
+    }
     let name = word(alloc, front)?;
+    let Some(count) = number_count(place, &name, rest.len()) else {
+        return Err(ShapeError::NoItem);
+    };
+    let numbers = numbers(alloc, &rest[..count])?;
     let mut args = Items::new(alloc);
-    for form in rest {
+    for form in &rest[count..] {
         args.push(tree(alloc, place, form)?)?;
     }
-    match applied(place, name, args) {
-        Some(tree) => Ok(tree),
-        None => Err(LoadError::Unread),
-    }
+    Ok(applied(name, numbers, args))
 }

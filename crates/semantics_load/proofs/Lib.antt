@@ -1,2 +1,5 @@
-mod Zips
-pub mod Same
+mod Said
+mod Checking
+mod Counts
+pub mod Drafts
+pub mod OneText

@@ -1,2 +1,9 @@
-pub mod Declares
+pub mod Declaring
+pub mod Pieces
+pub mod Names
+pub mod Limits
+pub mod Sorts
+pub mod Loads
 pub mod Text
+pub mod Checks
+pub mod Drafts

@@ -10,6 +10,7 @@ pub mod Each
 pub mod Equations
 pub mod GroundLemmas
 pub mod GroundTerms
+pub mod Growing
 pub mod Having
 pub mod Induction
 pub mod Judging
@@ -18,6 +19,7 @@ pub mod Meets
 pub mod NodeTerming
 pub mod PartSorts
 pub mod Parts
+pub mod Pushed
 pub mod RunLemmas
 pub mod Sorting
 pub mod Standing

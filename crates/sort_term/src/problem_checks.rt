@@ -1,7 +1,8 @@
 //! Whether programs, cuts and points pass their checks against their semantics.
 ghost use Rattle.std.specs.Prelude.{◌≡◌, ◌≢◌, ℕ, ◌<◌, ◌^◌, ◌≤◌, ◌||◌, ◌∷◌, [], IsTrue, ◌↔◌, length, slice_get, Some, All, AllPairs, ◌==◌};
 ghost use Rattle.std.specs.List.{list_any};
-ghost use Rattle.sort_term.specs.declared.term.Sort.TheVariants.{Own};
+ghost use Rattle.data_value.specs.declared.DataSort.TheVariants.{Bool as BoolSort};
+ghost use Rattle.sort_term.specs.declared.term.Sort.TheVariants.{Own, Plain};
 ghost use Rattle.sort_term.specs.Sorted.{IsExprOf};
 ghost use Rattle.sort_term.specs.Stands.{is_argument};
 ghost use Rattle.sort_term.specs.Problems.{IsRow, AreRows, HaveRows, IsProgram, AreWhens, IsCut, AreCuts, AreDetermined, IsConfigExpr, IsPointOf, ArePoints};
@@ -72,12 +73,19 @@ pub fn is_program<S: Side>(semantics: &Semantics<S>, lists: &[Rows]) -> bool
     lists.len() == tables.len() && have_rows(semantics.cons().as_slice(), tables, lists)
 }
 
+/// Whether each of these expressions is a condition over these constructors and variables: of sort bool. It takes no
+/// memory.
+pub fn are_conditions(cons: &[Con], vars: &[Var], whens: &[RuleExpr]) -> bool
+    ensures { IsTrue result ↔ All (IsExprOf cons.now vars.now (Plain BoolSort)) whens.now }
+{
+    whens.iter().all(|expr| is_expr_of(cons, vars, Sort::Plain(DataSort::Bool), expr))
+}
+
 /// Whether conditions pass their checks over these constructors and variables. It takes no memory.
 pub fn are_whens(cons: &[Con], vars: &[Var], whens: &[RuleExpr]) -> bool
     ensures { IsTrue result ↔ AreWhens cons.now vars.now whens.now }
 {
-    whens.len() <= 16
-        && whens.iter().all(|expr| is_expr_of(cons, vars, Sort::Plain(DataSort::Bool), expr))
+    whens.len() <= 16 && are_conditions(cons, vars, whens)
 }
 
 fn binds_vars(vars: &[Var], pattern: &Pattern) -> bool
@@ -124,8 +132,9 @@ pub fn are_determined(vars: &[Var], left: &RuleExpr, right: &RuleExpr) -> bool
     true
 }
 
-fn is_config<S: Side>(semantics: &Semantics<S>, vars: &[Var], expr: &RuleExpr) -> bool
-    ensures { IsTrue result ↔ IsExprOf semantics.now.cons vars.now (Own semantics.now.config) expr.now }
+/// Whether an expression over these variables is of the configuration sort of a semantics. It takes no memory.
+pub fn is_config<S: Side>(semantics: &Semantics<S>, vars: &[Var], expr: &RuleExpr) -> bool
+    ensures { IsTrue result ↔ IsConfigExpr semantics.now vars.now expr.now }
 {
     let sort = Sort::Own(semantics.config());
     is_expr_of(semantics.cons().as_slice(), vars, sort, expr)

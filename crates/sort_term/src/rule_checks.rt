@@ -131,7 +131,9 @@ fn has_ends(cons: &[Con], vars: &[Var], config: SortId, head: &Pattern, end: &Ru
     is_pattern_of(cons, vars, sort, head) && is_expr_of(cons, vars, sort, end)
 }
 
-fn is_sorted(cons: &[Con], tables: &[Table], config: SortId, rule: &Rule) -> bool
+/// Whether a rule is well sorted where these constructors, tables and configuration sort are declared: whether its head
+/// and result are of the configuration sort, and each of its demands has a sort. It takes no memory.
+pub fn is_sorted(cons: &[Con], tables: &[Table], config: SortId, rule: &Rule) -> bool
     ensures { IsTrue result ↔ IsSorted cons.now tables.now config rule.now }
 {
     let vars = rule.vars.as_slice();

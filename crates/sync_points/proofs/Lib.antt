@@ -1,1 +1,4 @@
-pub mod Same
+mod Passing
+mod Said
+mod Kept
+pub mod Drafts

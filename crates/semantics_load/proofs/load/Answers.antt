@@ -1,15 +1,19 @@
-use Rattle.std.proofs.Common.{rules, List, sym, ◌∙◌, subst}
-use Rattle.std.proofs.lemmas.Result.{IfOk-weaker}
-use Rattle.rule_text.specs.declared.item.Item.{Item}
-use Rattle.rule_text.proofs.Texts.{same_item_list}
-use Rattle.semantics_load.specs.Text.{AreItemsOf}
+use Rattle.std.proofs.Common.{sym, subst}
+use Rattle.rule_text.specs.Faults.{IsWholeText}
+use Rattle.semantics_load.specs.Declaring.{nothing}
+use Rattle.semantics_load.specs.Loads.{semantics_loading}
+use Rattle.semantics_load.proofs.Drafts.{text_makes_draft, is_told}
 use Rattle.semantics_load.proofs.load.Goals as goal
 
-pub returns-in_err-items-clause-unread : goal.returns-in_err-items-clause-unread
-returns-in_err-items-clause-unread g c = λ e s t. c.in_err-items.ensures.unread (search rules) t.items t.text
+pub into_semantics-requires-clause-lawful : goal.into_semantics-requires-clause-lawful
+into_semantics-requires-clause-lawful g c =
+    let text = subst (λ start. IsWholeText semantics_loading start c.args.bytes.now c.in_ok-draft.draft) c.new-nothing.ensures c.in_ok-draft.ensures.ok in
+    text_makes_draft c.args.bytes.now c.in_ok-draft.draft text.text
+
+pub into_semantics-requires-clause-told : goal.into_semantics-requires-clause-told
+into_semantics-requires-clause-told g c = is_told c.in_ok-draft.draft.config c.in_ok-draft.ensures.ok.whole
 
 pub returns-clause-ok : goal.returns-clause-ok
-returns-clause-ok g c = IfOk-weaker c.semantics.result _ _ (λ s made. record { items = c.in_ok-items.items; text = c.in_ok-items.ensures.ok; made = subst (λ (xs : List Item). AreItemsOf xs s) c.as_slice.ensures made }) c.semantics.ensures.ok
-
-pub returns-clause-unread : goal.returns-clause-unread
-returns-clause-unread g c = λ e s t. c.semantics.ensures.unread e s (subst (λ (xs : List Item). AreItemsOf xs s) (same_item_list _ _ t.items c.in_ok-items.items t.text c.in_ok-items.ensures.ok ∙ sym c.as_slice.ensures) t.made)
+returns-clause-ok g c =
+    let text = subst (λ start. IsWholeText semantics_loading start c.args.bytes.now c.in_ok-draft.draft) c.new-nothing.ensures c.in_ok-draft.ensures.ok in
+    record { whole = subst (IsWholeText semantics_loading nothing c.args.bytes.now) (sym c.into_semantics.ensures) text }

@@ -1,16 +1,12 @@
 use Rattle.std.proofs.Common.{rules, sym, subst}
 use Rattle.std.proofs.lemmas.Result.{IfOk-weaker}
-use Rattle.keq_cli.specs.Outcome.{CheckEnds, unread, judged, texts_of}
+use Rattle.keq_cli.specs.Outcome.{CheckEnds, unread, answered, texts_of}
 use Rattle.keq_cli.specs.declared.status.Status.{Status}
 use Rattle.keq_cli.specs.declared.status.Status.TheVariants.{Refused}
-use Rattle.keq_cli.proofs.GroundPoints.{problem_ground}
 use Rattle.keq_cli.proofs.answer.answer_texts.Goals as goal
 
-pub answer_problem-requires-clause-ground : goal.answer_problem-requires-clause-ground
-answer_problem-requires-clause-ground c = problem_ground (texts_of c.args.texts.now) c.in-Ok.problem c.in-Ok.ensures.ok
-
 pub returns-in-Ok : goal.returns-in-Ok
-returns-in-Ok c = IfOk-weaker c.answer_problem.result _ _ (λ answer how. judged c.in-Ok.problem answer.status answer.report.items c.in-Ok.ensures.ok how) c.answer_problem.ensures
+returns-in-Ok c = IfOk-weaker c.answer_loaded.result _ _ (λ answer how. answered c.in-Ok.problem answer.status answer.report.items c.in-Ok.ensures.ok how) c.answer_loaded.ensures
 
 pub returns-in-Err-Unread : goal.returns-in-Err-Unread
 returns-in-Err-Unread c =

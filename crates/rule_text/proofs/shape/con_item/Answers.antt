@@ -1,20 +1,20 @@
-use Rattle.std.proofs.Common.{rules, ◌≡◌, [], ◌∷◌, map, ap}
+use Rattle.std.proofs.Common.{rules, map, ap}
 use Rattle.sexp_text.specs.Printed.{without_spans}
 use Rattle.rule_text.proofs.Slices.{list_3}
 use Rattle.rule_text.proofs.ItemShapes.{con_parts}
 use Rattle.rule_text.proofs.shape.con_item.Goals as goal
 
-pub returns-in_err-name-clause-unread : goal.returns-in_err-name-clause-unread
-returns-in_err-name-clause-unread c =
-    let all : map without_spans c.args.parts.now ≡ without_spans c.name-item.result ∷ without_spans c.args-item.result ∷ without_spans c.sort-item.result ∷ [] = ap (map without_spans) (list_3 _ _ _ _ c.in-len3.len_at_least c.in-len3.len_below c.name-item.is c.args-item.is c.sort-item.is) in
-    λ u i w. let parts = con_parts _ i w in let whole = parts.3 in c.in_err-name.ensures.unread (search rules) parts.0 cc
+pub returns-in_err-name-clause-refused : goal.returns-in_err-name-clause-refused
+returns-in_err-name-clause-refused c =
+    let all = ap (map without_spans) (list_3 _ _ _ _ c.in-len3.len_at_least c.in-len3.len_below c.name-item.is c.args-item.is c.sort-item.is) in
+    λ u i w. let parts = con_parts _ i w in let whole = parts.3 in c.in_err-name.ensures.refused (search rules) parts.0 cc
 
-pub returns-in_err-args-clause-unread : goal.returns-in_err-args-clause-unread
-returns-in_err-args-clause-unread c =
-    let all : map without_spans c.args.parts.now ≡ without_spans c.name-item.result ∷ without_spans c.args-item.result ∷ without_spans c.sort-item.result ∷ [] = ap (map without_spans) (list_3 _ _ _ _ c.in-len3.len_at_least c.in-len3.len_below c.name-item.is c.args-item.is c.sort-item.is) in
-    λ u i w. let parts = con_parts _ i w in let whole = parts.3 in c.in_err-args.ensures.unread (search rules) parts.1 cc
+pub returns-in_err-args-clause-refused : goal.returns-in_err-args-clause-refused
+returns-in_err-args-clause-refused c =
+    let all = ap (map without_spans) (list_3 _ _ _ _ c.in-len3.len_at_least c.in-len3.len_below c.name-item.is c.args-item.is c.sort-item.is) in
+    λ u i w. let parts = con_parts _ i w in let whole = parts.3 in c.in_err-args.ensures.refused (search rules) parts.1 record { spelled = cc; lawful = parts.4 }
 
-pub returns-in_err-sort-clause-unread : goal.returns-in_err-sort-clause-unread
-returns-in_err-sort-clause-unread c =
-    let all : map without_spans c.args.parts.now ≡ without_spans c.name-item.result ∷ without_spans c.args-item.result ∷ without_spans c.sort-item.result ∷ [] = ap (map without_spans) (list_3 _ _ _ _ c.in-len3.len_at_least c.in-len3.len_below c.name-item.is c.args-item.is c.sort-item.is) in
-    λ u i w. let parts = con_parts _ i w in let whole = parts.3 in c.in_err-sort.ensures.unread (search rules) parts.2 cc
+pub returns-in_err-sort-clause-refused : goal.returns-in_err-sort-clause-refused
+returns-in_err-sort-clause-refused c =
+    let all = ap (map without_spans) (list_3 _ _ _ _ c.in-len3.len_at_least c.in-len3.len_below c.name-item.is c.args-item.is c.sort-item.is) in
+    λ u i w. let parts = con_parts _ i w in let whole = parts.3 in c.in_err-sort.ensures.refused (search rules) parts.2 cc

@@ -1,10 +1,10 @@
-use Rattle.std.proofs.Common.{rules, ◌≡◌, [], ◌∷◌, map, ap}
+use Rattle.std.proofs.Common.{rules, map, ap}
 use Rattle.sexp_text.specs.Printed.{without_spans}
 use Rattle.rule_text.proofs.Slices.{list_1}
 use Rattle.rule_text.proofs.ItemShapes.{config_parts}
 use Rattle.rule_text.proofs.shape.config_item.Goals as goal
 
-pub returns-in_err-word-in-len1-clause-unread : goal.returns-in_err-word-in-len1-clause-unread
-returns-in_err-word-in-len1-clause-unread c =
-    let one : map without_spans c.args.parts.now ≡ without_spans c.name-item.result ∷ [] = ap (map without_spans) (list_1 _ _ c.in-len1.len_at_least c.in-len1.len_below c.name-item.is) in
-    λ u i w. let parts = config_parts _ i w in let whole = parts.1 in c.in_err-word-in-len1.ensures.unread (search rules) parts.0 cc
+pub returns-in_err-name-clause-refused : goal.returns-in_err-name-clause-refused
+returns-in_err-name-clause-refused c =
+    let all = ap (map without_spans) (list_1 _ _ c.in-len1.len_at_least c.in-len1.len_below c.name-item.is) in
+    λ u i w. let parts = config_parts _ i w in let whole = parts.1 in c.in_err-name.ensures.refused (search rules) parts.0 cc

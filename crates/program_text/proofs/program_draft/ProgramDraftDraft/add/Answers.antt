@@ -1,0 +1,5 @@
+use Rattle.program_text.proofs.RowChecks.{other_item}
+use Rattle.program_text.proofs.program_draft.ProgramDraftDraft.add.Goals as goal
+
+pub returns : goal.returns
+returns g c = record { ok = tt; fault = other_item c.args.self c.args.item.now c.in_default.not-Row }

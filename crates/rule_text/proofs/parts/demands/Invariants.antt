@@ -1,0 +1,12 @@
+use Rattle.std.proofs.Common.{◌≡◌, map, take, All}
+use Rattle.sexp_text.specs.Printed.{without_spans}
+use Rattle.rule_text.specs.Written.{written_demand}
+use Rattle.rule_text.specs.Lawful.{IsDemand}
+use Rattle.rule_text.proofs.parts.demands.Given as goal
+
+-- the demands so far are what the forms so far write
+abbrev pub invariant-loop-form : goal.invariant-loop-form
+invariant-loop-form l = record {
+  spelled : map without_spans (take l.form-index l.forms) ≡ map written_demand l.demands;
+  lawful : All IsDemand l.demands;
+}

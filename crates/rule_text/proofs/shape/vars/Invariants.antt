@@ -1,8 +1,0 @@
-use Rattle.std.proofs.Common.{◌≡◌, map, take}
-use Rattle.sexp_text.specs.Printed.{without_spans}
-use Rattle.rule_text.specs.Written.{written_var}
-use Rattle.rule_text.proofs.shape.vars.Given as goal
-
--- the variables so far are what the forms so far write
-abbrev pub invariant-loop-pair : goal.invariant-loop-pair
-invariant-loop-pair l = map without_spans (take l.pair-index l.pairs) ≡ map written_var l.vars
