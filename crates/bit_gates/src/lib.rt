@@ -12,8 +12,6 @@ mod layout;
 mod product;
 mod shifts;
 mod sums;
-#[cfg(test)]
-mod tests;
 
 pub use bitwise::{and_words, mux_words, not_word, or_words, xor_words};
 pub use builder::{Builder, constant};

@@ -8,8 +8,6 @@ mod laws;
 mod operator;
 mod place;
 mod reading;
-#[cfg(test)]
-mod tests;
 mod walk;
 
 pub use circuit::{BitLists, Bits, Circuit};

@@ -11,9 +11,6 @@ use crate::{DataSort, DataSorts, NoMemory, Op, Scalar, apply_scalar, sort_of};
 use sqlite_items::Items;
 use std::alloc::Global;
 
-#[cfg(test)]
-mod tests;
-
 /// The places of a node's arguments, in their order.
 pub type Places = Items<usize>;
 

@@ -6,9 +6,6 @@ ghost use Rattle.data_value.specs.GroundLawful.{ground-laws};
 use crate::{DataSort, Domain, NoMemory, Op, Scalar, Value, apply_value, copy_value, value_sort};
 use std::alloc::Global;
 
-#[cfg(test)]
-mod tests;
-
 /// The domain whose nodes are the values in range, those of which `is_value` is true, and which has no variables.
 #[derive(Drop)]
 pub struct Ground {

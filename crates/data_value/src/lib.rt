@@ -15,8 +15,6 @@ pub mod node_laws;
 mod scalars;
 mod sorts;
 mod symbolic;
-#[cfg(test)]
-mod tests;
 mod words;
 
 pub use apply::apply_value;

@@ -8,8 +8,6 @@ mod reach;
 mod relation;
 mod run;
 mod steps;
-#[cfg(test)]
-mod tests;
 mod verdict;
 mod verdict_laws;
 

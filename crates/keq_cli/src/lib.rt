@@ -9,8 +9,6 @@ mod memory_shelf;
 mod memory_sink;
 mod outside;
 mod status;
-#[cfg(test)]
-mod tests;
 mod texts;
 mod top;
 mod words;

@@ -1,5 +1,5 @@
 //! The first fault of a text, as it is told.
-use crate::failed::Failed;
+use example_cases::Failed;
 use rule_text::{LoadError, LoadFault};
 use sexp_text::TextFault;
 use std::alloc::Global;
@@ -31,7 +31,8 @@ fn item_fault(alloc: Global, kind: &str, item: usize) -> Result<String, Failed> 
     Ok(format!(in alloc; "{kind} in item {item}")?)
 }
 
-fn text_fault(alloc: Global, fault: TextFault) -> Result<String, Failed> {
+/// The kind of the fault and its offset.
+pub(crate) fn text_fault(alloc: Global, fault: TextFault) -> Result<String, Failed> {
     let (kind, offset) = match fault {
         TextFault::TooLong(offset) => ("too-long", offset),
         TextFault::NotAscii(offset) => ("not-ascii", offset),

@@ -1,14 +1,14 @@
 //! Calls of the loaders. What is answered is that the text loads, or what it says, or else its first fault.
-use crate::failed::Failed;
 use crate::faults::told;
 use crate::outline;
 use crate::resolving::resolved;
-use crate::texts::{Texts, is_word};
+use example_cases::{Failed, Texts, is_word};
+use machine_examples::loaded_semantics;
 use program_text::{load_program, load_start};
 use rule_text::{FileKind, ItemList, LoadError, items, read_item};
 use semantics_load::load;
 use sexp_text::{Form, read};
-use sort_term::{Left, Right, Semantics, Side};
+use sort_term::{Left, Points, Right, Semantics};
 use std::alloc::Global;
 use sync_points::load_points;
 
@@ -48,21 +48,31 @@ fn of_text(
 fn load_answer(alloc: Global, texts: &Texts, text: &Form) -> Result<String, Failed> {
     let bytes = texts.text(alloc, text)?;
     let loaded: Result<Semantics<Left>, LoadError> = load(alloc, bytes.as_slice());
-    match loaded {
-        Ok(_) => loads(alloc),
-        Err(error) => told(alloc, error),
-    }
+    drop(bytes);
+    if_loads(alloc, loaded)
 }
 
-fn loads(alloc: Global) -> Result<String, Failed> {
-    Ok(String::from_str(alloc, "loads")?)
+// That a text loads, or else its first fault.
+fn if_loads<T: Drop>(alloc: Global, loaded: Result<T, LoadError>) -> Result<String, Failed> {
+    match loaded {
+        Ok(value) => {
+            drop(value);
+            Ok(String::from_str(alloc, "loads")?)
+        }
+        Err(error) => told(alloc, error),
+    }
 }
 
 fn semantics_answer(alloc: Global, texts: &Texts, text: &Form) -> Result<String, Failed> {
     let bytes = texts.text(alloc, text)?;
     let loaded: Result<Semantics<Right>, LoadError> = load(alloc, bytes.as_slice());
+    drop(bytes);
     match loaded {
-        Ok(semantics) => Ok(outline::semantics(alloc, &semantics)?),
+        Ok(semantics) => {
+            let text = outline::semantics(alloc, &semantics);
+            drop(semantics);
+            Ok(text?)
+        }
         Err(error) => told(alloc, error),
     }
 }
@@ -115,7 +125,10 @@ fn kind(form: &Form) -> Result<FileKind, Failed> {
 
 fn item_answer(alloc: Global, kind: FileKind, form: &Form) -> Result<String, Failed> {
     match read_item(alloc, kind, form) {
-        Ok(_) => Ok(String::from_str(alloc, "one item")?),
+        Ok(item) => {
+            drop(item);
+            Ok(String::from_str(alloc, "one item")?)
+        }
         Err(error) => told(alloc, error.in_item(1)),
     }
 }
@@ -127,9 +140,12 @@ fn items_answer(
     text: &Form,
 ) -> Result<String, Failed> {
     let bytes = texts.text(alloc, text)?;
-    match items_of(alloc, kind, bytes.as_slice()) {
+    let found = items_of(alloc, kind, bytes.as_slice());
+    drop(bytes);
+    match found {
         Ok(items) => {
             let count = items.len();
+            drop(items);
             Ok(format!(in alloc; "{count} items")?)
         }
         Err(error) => told(alloc, error),
@@ -141,16 +157,6 @@ fn items_of(alloc: Global, kind: FileKind, bytes: &[u8]) -> Result<ItemList, Loa
     items(alloc, kind, forms.as_slice())
 }
 
-// A semantics that other texts are for. It loads.
-fn loaded<S: Side>(alloc: Global, texts: &Texts, text: &Form) -> Result<Semantics<S>, Failed> {
-    let bytes = texts.text(alloc, text)?;
-    match load(alloc, bytes.as_slice()) {
-        Ok(semantics) => Ok(semantics),
-        Err(LoadError::NoMemory) => Err(Failed::NoMemory),
-        Err(LoadError::Fault(_)) => Err(Failed::NoCall),
-    }
-}
-
 fn program_answer(
     alloc: Global,
     texts: &Texts,
@@ -158,36 +164,49 @@ fn program_answer(
     text: &Form,
 ) -> Result<String, Failed> {
     let bytes = texts.text(alloc, text)?;
-    let semantics: Semantics<Left> = loaded(alloc, texts, first)?;
-    match load_program(alloc, &semantics, bytes.as_slice()) {
-        Ok(_) => loads(alloc),
-        Err(error) => told(alloc, error),
-    }
+    let semantics: Semantics<Left> = loaded_semantics(alloc, texts, first)?;
+    let loaded = load_program(alloc, &semantics, bytes.as_slice());
+    drop((semantics, bytes));
+    if_loads(alloc, loaded)
 }
 
 fn rows_answer(alloc: Global, texts: &Texts, first: &Form, text: &Form) -> Result<String, Failed> {
     let bytes = texts.text(alloc, text)?;
-    let semantics: Semantics<Right> = loaded(alloc, texts, first)?;
-    match load_program(alloc, &semantics, bytes.as_slice()) {
-        Ok(program) => Ok(outline::program(alloc, &semantics, &program)?),
-        Err(error) => told(alloc, error),
+    let semantics: Semantics<Right> = loaded_semantics(alloc, texts, first)?;
+    let loaded = load_program(alloc, &semantics, bytes.as_slice());
+    drop(bytes);
+    match loaded {
+        Ok(program) => {
+            let text = outline::program(alloc, &semantics, &program);
+            drop((program, semantics));
+            Ok(text?)
+        }
+        Err(error) => {
+            drop(semantics);
+            told(alloc, error)
+        }
     }
 }
 
 fn start_answer(alloc: Global, texts: &Texts, first: &Form, text: &Form) -> Result<String, Failed> {
     let bytes = texts.text(alloc, text)?;
-    let semantics: Semantics<Left> = loaded(alloc, texts, first)?;
-    match load_start(alloc, &semantics, bytes.as_slice()) {
-        Ok(_) => loads(alloc),
-        Err(error) => told(alloc, error),
-    }
+    let semantics: Semantics<Left> = loaded_semantics(alloc, texts, first)?;
+    let loaded = load_start(alloc, &semantics, bytes.as_slice());
+    drop((semantics, bytes));
+    if_loads(alloc, loaded)
 }
 
 fn state_answer(alloc: Global, texts: &Texts, first: &Form, text: &Form) -> Result<String, Failed> {
     let bytes = texts.text(alloc, text)?;
-    let semantics: Semantics<Right> = loaded(alloc, texts, first)?;
-    match load_start(alloc, &semantics, bytes.as_slice()) {
-        Ok(state) => Ok(outline::state(alloc, &state)?),
+    let semantics: Semantics<Right> = loaded_semantics(alloc, texts, first)?;
+    let loaded = load_start(alloc, &semantics, bytes.as_slice());
+    drop((semantics, bytes));
+    match loaded {
+        Ok(state) => {
+            let text = outline::state(alloc, &state);
+            drop(state);
+            Ok(text?)
+        }
         Err(error) => told(alloc, error),
     }
 }
@@ -200,10 +219,19 @@ fn cut_answer(
     is_read: bool,
 ) -> Result<String, Failed> {
     let bytes = texts.text(alloc, text)?;
-    let semantics: Semantics<Left> = loaded(alloc, texts, first)?;
-    match items_of(alloc, FileKind::Points, bytes.as_slice()) {
-        Ok(items) => resolved(alloc, &semantics, items.as_slice(), is_read),
-        Err(error) => told(alloc, error),
+    let semantics: Semantics<Left> = loaded_semantics(alloc, texts, first)?;
+    let found = items_of(alloc, FileKind::Points, bytes.as_slice());
+    drop(bytes);
+    match found {
+        Ok(items) => {
+            let text = resolved(alloc, &semantics, items.as_slice(), is_read);
+            drop((items, semantics));
+            text
+        }
+        Err(error) => {
+            drop(semantics);
+            told(alloc, error)
+        }
     }
 }
 
@@ -221,12 +249,37 @@ fn of_sides(
         return Ok(None);
     }
     let bytes = texts.text(alloc, text)?;
-    let left: Semantics<Left> = loaded(alloc, texts, left)?;
-    let right: Semantics<Right> = loaded(alloc, texts, right)?;
-    let answer = match load_points(alloc, &left, &right, bytes.as_slice()) {
-        Ok(points) if is_shown => outline::points(alloc, &points)?,
-        Ok(_) => loads(alloc)?,
-        Err(error) => told(alloc, error)?,
-    };
-    Ok(Some(answer))
+    let left: Semantics<Left> = loaded_semantics(alloc, texts, left)?;
+    let answer = points_answer(alloc, texts, &left, right, bytes.as_slice(), is_shown);
+    drop((left, bytes));
+    Ok(Some(answer?))
+}
+
+fn points_answer(
+    alloc: Global,
+    texts: &Texts,
+    left: &Semantics<Left>,
+    right: &Form,
+    bytes: &[u8],
+    is_shown: bool,
+) -> Result<String, Failed> {
+    let right: Semantics<Right> = loaded_semantics(alloc, texts, right)?;
+    let loaded = load_points(alloc, left, &right, bytes);
+    drop(right);
+    if is_shown {
+        shown_points(alloc, loaded)
+    } else {
+        if_loads(alloc, loaded)
+    }
+}
+
+fn shown_points(alloc: Global, loaded: Result<Points, LoadError>) -> Result<String, Failed> {
+    match loaded {
+        Ok(points) => {
+            let text = outline::points(alloc, &points);
+            drop(points);
+            Ok(text?)
+        }
+        Err(error) => told(alloc, error),
+    }
 }

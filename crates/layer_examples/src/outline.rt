@@ -1,5 +1,5 @@
 //! What a loaded text says, in one line.
-use crate::shown::{Shown, expression, pattern, sort, term, vars, whens};
+use shown_terms::{Shown, expression, pattern, sort, term, vars, whens};
 use sort_term::{
     Con, Cut, Demand, Point, Points, Program, Rule, Semantics, Side, Sort, Source, State, Table,
     TableId,

@@ -1,13 +1,13 @@
 //! Calls of the tests and readings of names, over what a semantics declares, on a cut: its variables, its pattern and its conditions.
-use crate::failed::Failed;
-use crate::shown::{Shown, expression, pattern, term, vars};
 use data_value::Value;
+use example_cases::Failed;
 use name_resolution::{
     Known, NameTable, Vocabulary, are_sorts_named, are_vars_within, is_named_tree, is_within_tree,
     read_expressions, read_tree, variable_names, variables,
 };
 use no_memory::NoMemory;
 use rule_text::{Item, RawTree, RawVar};
+use shown_terms::{Shown, expression, pattern, term, vars};
 use sort_term::{Pattern, RuleExpr, Semantics, Side, Term};
 use std::alloc::Global;
 

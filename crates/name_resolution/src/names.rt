@@ -5,6 +5,8 @@ ghost use Rattle.name_resolution.specs.Names.{place_of, IsNew};
 use indexmap::IndexSet;
 use no_memory::NoMemory;
 use sexp_text::Name;
+use sort_term::Named;
+use sqlite_items::Items;
 use std::alloc::Global;
 use std::marker::Model;
 
@@ -65,5 +67,21 @@ impl NameTable {
         let bytes = Vec::from_slice(alloc, word)?;
         let (_place, is_new) = self.words.insert_full(bytes)?;
         Ok(is_new)
+    }
+
+    /// These names and those things, with one more thing, whose name is new. All are dropped where there is no memory.
+    pub fn with_one<T: Named + Drop>(
+        self,
+        alloc: Global,
+        list: Items<T>,
+        item: T,
+    ) -> Result<(NameTable, Items<T>), NoMemory>
+        requires new { IsNew (T.name_of item) self }
+        ensures { IfOk result (λ p. (p.0 ≡ self ++ T.name_of item ∷ []) × (p.1 ≡ list ++ item ∷ [])) }
+    {
+        let (mut names, mut list) = (self, list);
+        names.declare_word(alloc, item.name())?;
+        list.push(item)?;
+        Ok((names, list))
     }
 }

@@ -54,7 +54,12 @@ impl<'a, S: Side> ProgramDraft<'a, S> {
     pub fn into_rows(self) -> RowLists
         ensures { result ≡ self.entry.rows }
     {
-        let ProgramDraft { row_lists, .. } = self;
+        let ProgramDraft {
+            reader,
+            row_lists,
+            key_tables,
+        } = self;
+        drop((reader, key_tables));
         Items::from_vec(row_lists)
     }
 
@@ -107,15 +112,19 @@ impl<'a, S: Side> ProgramDraft<'a, S> {
         ensures fault { IfErr result (IsItemError program_loading self.entry (Item.Row name.now key raw.now)) }
     {
         let Some((id, table)) = self.named(name, raw) else {
+            drop(self);
             return Err(ItemError::Fault(ItemFault::Name));
         };
         if !self.is_within(id, table, key, raw) {
+            drop(self);
             return Err(ItemError::Fault(ItemFault::Limit));
         }
         let Some(term) = self.reader.sorted_term(alloc, table.sort, raw)? else {
+            drop(self);
             return Err(ItemError::Fault(ItemFault::Sort));
         };
         if self.has_key(id, key) {
+            drop((self, term));
             return Err(ItemError::Fault(ItemFault::DoubleKey));
         }
         Ok(self.with_row(id, Row { key, term })?)
@@ -140,7 +149,10 @@ impl<'a, S: Side> Draft for ProgramDraft<'a, S> {
     fn add(self, alloc: Global, item: &Item) -> Result<ProgramDraft<'a, S>, ItemError> {
         match item {
             Item::Row { table, key, term } => self.add_row(alloc, table, *key, term),
-            _ => Err(ItemError::Fault(ItemFault::Shape)),
+            _ => {
+                drop(self);
+                Err(ItemError::Fault(ItemFault::Shape))
+            }
         }
     }
 

@@ -44,7 +44,8 @@ impl<'a, S: Side> StartDraft<'a, S> {
     pub fn into_tree(self) -> Option<Term<Value>>
         ensures { result ≡ self.entry.tree }
     {
-        let StartDraft { tree, .. } = self;
+        let StartDraft { reader, tree } = self;
+        drop(reader);
         tree
     }
 
@@ -54,16 +55,20 @@ impl<'a, S: Side> StartDraft<'a, S> {
         ensures fault { IfErr result (IsItemError start_loading self.entry (Item.Start raw.now)) }
     {
         if self.tree.is_some() {
+            drop(self);
             return Err(ItemError::Fault(ItemFault::Shape));
         }
         if !self.reader.is_named(raw) {
+            drop(self);
             return Err(ItemError::Fault(ItemFault::Name));
         }
         if !self.reader.is_within(raw) {
+            drop(self);
             return Err(ItemError::Fault(ItemFault::Limit));
         }
         let sort = self.reader.state_sort();
         let Some(tree) = self.reader.sorted_term(alloc, sort, raw)? else {
+            drop(self);
             return Err(ItemError::Fault(ItemFault::Sort));
         };
         Ok(self.with_tree(tree))
@@ -73,7 +78,11 @@ impl<'a, S: Side> StartDraft<'a, S> {
     fn with_tree(self, tree: Term<Value>) -> StartDraft<'a, S>
         ensures { result ≡ record { semantics = self.entry.semantics; tree = Some tree } }
     {
-        let StartDraft { reader, .. } = self;
+        let StartDraft {
+            reader,
+            tree: earlier,
+        } = self;
+        drop(earlier);
         StartDraft {
             reader,
             tree: Some(tree),
@@ -87,7 +96,10 @@ impl<'a, S: Side> Draft for StartDraft<'a, S> {
     fn add(self, alloc: Global, item: &Item) -> Result<StartDraft<'a, S>, ItemError> {
         match item {
             Item::Start(raw) => self.add_tree(alloc, raw),
-            _ => Err(ItemError::Fault(ItemFault::Shape)),
+            _ => {
+                drop(self);
+                Err(ItemError::Fault(ItemFault::Shape))
+            }
         }
     }
 

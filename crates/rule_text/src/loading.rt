@@ -85,5 +85,7 @@ fn take<D: Draft>(alloc: Global, kind: FileKind, draft: D, form: &Form) -> Resul
     ensures fault { IfErr result (IsFormError D.loading draft (without_spans form.now)) }
 {
     let item = read_item(alloc, kind, form)?;
-    draft.add(alloc, &item)
+    let taken = draft.add(alloc, &item);
+    drop(item);
+    taken
 }

@@ -60,6 +60,7 @@ fn start_items(alloc: Global, forms: &[Form]) -> Result<ItemList, LoadError>
         Err(error) => return Err(error.in_item(1)),
     };
     if !rest.is_empty() {
+        drop(item);
         return Err(LoadError::Fault(LoadFault::Shape { item: 2 }));
     }
     let mut items = Items::new(alloc);

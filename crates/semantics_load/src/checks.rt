@@ -23,9 +23,11 @@ pub fn lawful_piece(alloc: Global, draft: &SemanticsDraft, item: &Item) -> Resul
 {
     let names = names_in_form(alloc, draft, item)?;
     let piece = sorted_piece(alloc, draft, &names, item)?;
+    drop(names);
     if is_piece_bound(&piece) {
         Ok(piece)
     } else {
+        drop(piece);
         Err(ItemError::Fault(ItemFault::Unbound))
     }
 }
@@ -44,6 +46,7 @@ fn names_in_form(alloc: Global, draft: &SemanticsDraft, item: &Item) -> Result<N
     if is_within_limits(draft, item) {
         Ok(names)
     } else {
+        drop(names);
         Err(ItemError::Fault(ItemFault::Limit))
     }
 }
@@ -66,6 +69,7 @@ fn sorted_piece(
     if is_piece_sorted(draft, &piece) {
         Ok(piece)
     } else {
+        drop(piece);
         Err(ItemError::Fault(ItemFault::Sort))
     }
 }

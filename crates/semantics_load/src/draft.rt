@@ -113,16 +113,17 @@ impl SemanticsDraft {
         ensures { declared_by result ≡ self }
     {
         let SemanticsDraft {
-            sort_names: _,
+            sort_names,
             sort_list,
-            con_names: _,
+            con_names,
             con_list,
-            table_names: _,
+            table_names,
             table_list,
-            rule_names: _,
+            rule_names,
             rule_list,
             state_sort,
         } = self;
+        drop((sort_names, con_names, table_names, rule_names));
         match state_sort {
             Some(config) => Semantics::new(sort_list, con_list, table_list, rule_list, config),
             None => unreachable!(),
@@ -149,19 +150,6 @@ impl SemanticsDraft {
         ensures { IfOk result (λ d. d ≡ with_piece self (Piece.Sort name)) }
     {
         let SemanticsDraft {
-            mut sort_names,
-            mut sort_list,
-            con_names,
-            con_list,
-            table_names,
-            table_list,
-            rule_names,
-            rule_list,
-            state_sort,
-        } = self;
-        sort_names.declare(alloc, &name)?;
-        sort_list.push(name)?;
-        Ok(SemanticsDraft {
             sort_names,
             sort_list,
             con_names,
@@ -171,7 +159,31 @@ impl SemanticsDraft {
             rule_names,
             rule_list,
             state_sort,
-        })
+        } = self;
+        match sort_names.with_one(alloc, sort_list, name) {
+            Ok((sort_names, sort_list)) => Ok(SemanticsDraft {
+                sort_names,
+                sort_list,
+                con_names,
+                con_list,
+                table_names,
+                table_list,
+                rule_names,
+                rule_list,
+                state_sort,
+            }),
+            Err(refused) => {
+                drop((
+                    con_names,
+                    con_list,
+                    table_names,
+                    table_list,
+                    rule_names,
+                    rule_list,
+                ));
+                Err(refused)
+            }
+        }
     }
 
     // With one more constructor.
@@ -182,19 +194,6 @@ impl SemanticsDraft {
         let SemanticsDraft {
             sort_names,
             sort_list,
-            mut con_names,
-            mut con_list,
-            table_names,
-            table_list,
-            rule_names,
-            rule_list,
-            state_sort,
-        } = self;
-        con_names.declare(alloc, &con.name)?;
-        con_list.push(con)?;
-        Ok(SemanticsDraft {
-            sort_names,
-            sort_list,
             con_names,
             con_list,
             table_names,
@@ -202,7 +201,31 @@ impl SemanticsDraft {
             rule_names,
             rule_list,
             state_sort,
-        })
+        } = self;
+        match con_names.with_one(alloc, con_list, con) {
+            Ok((con_names, con_list)) => Ok(SemanticsDraft {
+                sort_names,
+                sort_list,
+                con_names,
+                con_list,
+                table_names,
+                table_list,
+                rule_names,
+                rule_list,
+                state_sort,
+            }),
+            Err(refused) => {
+                drop((
+                    sort_names,
+                    sort_list,
+                    table_names,
+                    table_list,
+                    rule_names,
+                    rule_list,
+                ));
+                Err(refused)
+            }
+        }
     }
 
     // With one more table.
@@ -215,25 +238,31 @@ impl SemanticsDraft {
             sort_list,
             con_names,
             con_list,
-            mut table_names,
-            mut table_list,
-            rule_names,
-            rule_list,
-            state_sort,
-        } = self;
-        table_names.declare(alloc, &table.name)?;
-        table_list.push(table)?;
-        Ok(SemanticsDraft {
-            sort_names,
-            sort_list,
-            con_names,
-            con_list,
             table_names,
             table_list,
             rule_names,
             rule_list,
             state_sort,
-        })
+        } = self;
+        match table_names.with_one(alloc, table_list, table) {
+            Ok((table_names, table_list)) => Ok(SemanticsDraft {
+                sort_names,
+                sort_list,
+                con_names,
+                con_list,
+                table_names,
+                table_list,
+                rule_names,
+                rule_list,
+                state_sort,
+            }),
+            Err(refused) => {
+                drop((
+                    sort_names, sort_list, con_names, con_list, rule_names, rule_list,
+                ));
+                Err(refused)
+            }
+        }
     }
 
     // With the sort of the states.
@@ -257,23 +286,34 @@ impl SemanticsDraft {
             con_list,
             table_names,
             table_list,
-            mut rule_names,
-            mut rule_list,
-            state_sort,
-        } = self;
-        rule_names.declare(alloc, &rule.name)?;
-        rule_list.push(rule)?;
-        Ok(SemanticsDraft {
-            sort_names,
-            sort_list,
-            con_names,
-            con_list,
-            table_names,
-            table_list,
             rule_names,
             rule_list,
             state_sort,
-        })
+        } = self;
+        match rule_names.with_one(alloc, rule_list, rule) {
+            Ok((rule_names, rule_list)) => Ok(SemanticsDraft {
+                sort_names,
+                sort_list,
+                con_names,
+                con_list,
+                table_names,
+                table_list,
+                rule_names,
+                rule_list,
+                state_sort,
+            }),
+            Err(refused) => {
+                drop((
+                    sort_names,
+                    sort_list,
+                    con_names,
+                    con_list,
+                    table_names,
+                    table_list,
+                ));
+                Err(refused)
+            }
+        }
     }
 }
 
@@ -281,8 +321,13 @@ impl Draft for SemanticsDraft {
     ghost loading = { semantics_loading };
 
     fn add(self, alloc: Global, item: &Item) -> Result<SemanticsDraft, ItemError> {
-        let piece = lawful_piece(alloc, &self, item)?;
-        Ok(self.with_piece(alloc, piece)?)
+        match lawful_piece(alloc, &self, item) {
+            Ok(piece) => Ok(self.with_piece(alloc, piece)?),
+            Err(error) => {
+                drop(self);
+                Err(error)
+            }
+        }
     }
 
     fn lacking(&self) -> Option<LoadFault> {

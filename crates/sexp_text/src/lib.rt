@@ -36,6 +36,3 @@ pub use form::{Bytes, Form, FormKind, Forms, Name};
 pub use laws::{faults_are_apart, printed_forms_are_read, spelling_is_unique, text_is_faultless};
 pub use printer::print;
 pub use reader::read;
-
-#[cfg(test)]
-mod tests;

@@ -131,6 +131,3 @@ pub use term::Term;
 pub use term::Terms;
 pub use tree::copy_term;
 pub use tree::same_term;
-
-#[cfg(test)]
-mod tests;

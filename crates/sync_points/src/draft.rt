@@ -136,7 +136,15 @@ impl<'a> PointsDraft<'a> {
     pub fn into_points(self) -> Points
         ensures { result ≡ self.entry.points }
     {
-        self.named.into_points()
+        let PointsDraft {
+            left_words,
+            right_words,
+            none,
+            named,
+            ..
+        } = self;
+        drop((left_words, right_words, none));
+        named.into_points()
     }
 
     /// With what one more item says, which has a new name.
@@ -152,15 +160,20 @@ impl<'a> PointsDraft<'a> {
             none,
             named,
         } = self;
-        let named = named.with_piece(alloc, piece)?;
-        Ok(PointsDraft {
-            left,
-            right,
-            left_words,
-            right_words,
-            none,
-            named,
-        })
+        match named.with_piece(alloc, piece) {
+            Ok(named) => Ok(PointsDraft {
+                left,
+                right,
+                left_words,
+                right_words,
+                none,
+                named,
+            }),
+            Err(refused) => {
+                drop((left_words, right_words, none));
+                Err(refused)
+            }
+        }
     }
 }
 
@@ -170,7 +183,10 @@ impl Draft for PointsDraft<'_> {
     fn add(self, alloc: Global, item: &Item) -> Result<Self, ItemError> {
         match lawful_piece(alloc, &self, item) {
             Ok(piece) => Ok(self.with_piece(alloc, piece)?),
-            Err(error) => Err(error),
+            Err(error) => {
+                drop(self);
+                Err(error)
+            }
         }
     }
 
@@ -195,18 +211,24 @@ fn lawful_piece(alloc: Global, draft: &PointsDraft<'_>, item: &Item) -> Result<P
         return Err(ItemError::Fault(ItemFault::Name));
     };
     if !is_within_limits(draft, item) {
+        drop(names);
         return Err(ItemError::Fault(ItemFault::Limit));
     }
     let Some(piece) = piece_of(alloc, draft, &names, item)? else {
+        drop(names);
         return Err(ItemError::Fault(ItemFault::Sort));
     };
+    drop(names);
     if !is_piece_sorted(draft, &piece) {
+        drop(piece);
         return Err(ItemError::Fault(ItemFault::Sort));
     }
     if !is_piece_bound(&piece) {
+        drop(piece);
         return Err(ItemError::Fault(ItemFault::Unbound));
     }
     if !is_piece_determined(&piece) {
+        drop(piece);
         return Err(ItemError::Fault(ItemFault::Undetermined));
     }
     Ok(piece)

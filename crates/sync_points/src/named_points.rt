@@ -83,7 +83,14 @@ impl NamedPoints {
     pub fn into_points(self) -> Points
         ensures { result ≡ self }
     {
-        self.all
+        let NamedPoints {
+            left_names,
+            right_names,
+            point_names,
+            all,
+        } = self;
+        drop((left_names, right_names, point_names));
+        all
     }
 
     /// With what one more item says, which has a new name.
@@ -104,19 +111,32 @@ impl NamedPoints {
         ensures { IfOk result (λ p. p ≡ points_with self (Piece.LeftCut cut)) }
     {
         let NamedPoints {
-            mut left_names,
-            right_names,
-            point_names,
-            mut all,
-        } = self;
-        left_names.declare(alloc, &cut.name)?;
-        all.left_cuts.push(cut)?;
-        Ok(NamedPoints {
             left_names,
             right_names,
             point_names,
             all,
-        })
+        } = self;
+        let Points {
+            left_cuts,
+            right_cuts,
+            points,
+        } = all;
+        match left_names.with_one(alloc, left_cuts, cut) {
+            Ok((left_names, left_cuts)) => Ok(NamedPoints {
+                left_names,
+                right_names,
+                point_names,
+                all: Points {
+                    left_cuts,
+                    right_cuts,
+                    points,
+                },
+            }),
+            Err(refused) => {
+                drop((right_names, point_names, right_cuts, points));
+                Err(refused)
+            }
+        }
     }
 
     // With one more item of the right cut.
@@ -126,18 +146,31 @@ impl NamedPoints {
     {
         let NamedPoints {
             left_names,
-            mut right_names,
-            point_names,
-            mut all,
-        } = self;
-        right_names.declare(alloc, &cut.name)?;
-        all.right_cuts.push(cut)?;
-        Ok(NamedPoints {
-            left_names,
             right_names,
             point_names,
             all,
-        })
+        } = self;
+        let Points {
+            left_cuts,
+            right_cuts,
+            points,
+        } = all;
+        match right_names.with_one(alloc, right_cuts, cut) {
+            Ok((right_names, right_cuts)) => Ok(NamedPoints {
+                left_names,
+                right_names,
+                point_names,
+                all: Points {
+                    left_cuts,
+                    right_cuts,
+                    points,
+                },
+            }),
+            Err(refused) => {
+                drop((left_names, point_names, left_cuts, points));
+                Err(refused)
+            }
+        }
     }
 
     // With one more point.
@@ -148,16 +181,29 @@ impl NamedPoints {
         let NamedPoints {
             left_names,
             right_names,
-            mut point_names,
-            mut all,
-        } = self;
-        point_names.declare(alloc, &point.name)?;
-        all.points.push(point)?;
-        Ok(NamedPoints {
-            left_names,
-            right_names,
             point_names,
             all,
-        })
+        } = self;
+        let Points {
+            left_cuts,
+            right_cuts,
+            points,
+        } = all;
+        match point_names.with_one(alloc, points, point) {
+            Ok((point_names, points)) => Ok(NamedPoints {
+                left_names,
+                right_names,
+                point_names,
+                all: Points {
+                    left_cuts,
+                    right_cuts,
+                    points,
+                },
+            }),
+            Err(refused) => {
+                drop((left_names, right_names, left_cuts, right_cuts));
+                Err(refused)
+            }
+        }
     }
 }

@@ -24,9 +24,6 @@ use sort_term::{Config, Program, Rule, RuleId, Semantics, Side, Term};
 use sqlite_items::Items;
 use std::alloc::Global;
 
-#[cfg(test)]
-mod tests;
-
 /// The branches of the rule with a number from a configuration. The rule is one of the semantics, the program fits the
 /// semantics, and the configuration is a term of valid nodes which by their sorts is of the configuration sort.
 ///

@@ -15,9 +15,6 @@ use sort_term::{Pattern, Semantics, Side, Term, Vars};
 use sqlite_items::Items;
 use std::alloc::Global;
 
-#[cfg(test)]
-mod tests;
-
 /// What makes a pattern equal to a term.
 #[derive(Drop)]
 pub enum Meet<N> {

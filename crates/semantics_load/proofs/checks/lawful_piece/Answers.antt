@@ -13,8 +13,8 @@ sorted_piece-requires-clause-names c = c.in_ok-names.ensures.ok.1
 pub returns-then-is_piece_bound-clause-ok : goal.returns-then-is_piece_bound-clause-ok
 returns-then-is_piece_bound-clause-ok c = record { form = c.in_ok-names.ensures.ok.0; said = c.in_ok-piece.ensures.ok; bound = c.is_piece_bound.ensures.0 c.if-is_piece_bound.true }
 
-pub returns-clause-fault : goal.returns-clause-fault
-returns-clause-fault c =
+pub returns-else-is_piece_bound-clause-fault : goal.returns-else-is_piece_bound-clause-fault
+returns-else-is_piece_bound-clause-fault c =
     let form = c.in_ok-names.ensures.ok.0 in
     let said = c.in_ok-piece.ensures.ok in
     first_unbound semantics_loading c.args.draft.now c.args.item.now form.shape form.named form.within (has_sorts c.args.draft.now c.args.item.now c.in_ok-piece.piece said)

@@ -1,0 +1,186 @@
+//! Calls on formulas without maps. A formula is the widths of its inputs and its nodes, where a node is a truth value, a word as
+//! `(WIDTH BITS)`, an input as `(in INPUT)`, or an operator at places, as `(add 0 1)` and `((extract 7 4) 0)`. `(flat (WIDTH ..) (NODE
+//! ..) ROOT (WORD ..))` answers the values of all places where the inputs have these words, and `(words (WIDTH ..) (WORD ..))` whether
+//! words fit widths. Where the root is the last node, `(solve (WIDTH ..) (NODE ..))` answers words that make it true, found as a model
+//! of the formula's circuit, and `(size (WIDTH ..) (NODE ..))` how large that circuit is.
+use crate::{clauses, operands};
+use bv_blast::{blast, words};
+use clause_search::{Found, search};
+use data_value::{
+    Flat, FlatNode, FlatNodes, Places, Scalar, Widths, Words, are_words, flat_values, is_flat,
+};
+use example_cases::{Failed, is_word, list, number, small};
+use sexp_text::{Form, FormKind};
+use shown_terms::Shown;
+use sqlite_items::Items;
+use std::alloc::{AllocError, Global};
+
+/// What the call with this name answers; None where there is no such call.
+pub(crate) fn answer(
+    alloc: Global,
+    name: &[u8],
+    arguments: &[Form],
+) -> Result<Option<String>, Failed> {
+    let answer = match arguments {
+        [widths, nodes, root, words] if name == b"flat".as_slice() => {
+            places(alloc, widths, nodes, small(root)?, words)?
+        }
+        [widths, words] if name == b"words".as_slice() => fitting(alloc, widths, words)?,
+        [widths, nodes] if name == b"solve".as_slice() => solved(alloc, widths, nodes)?,
+        [widths, nodes] if name == b"size".as_slice() => size(alloc, widths, nodes)?,
+        _ => return Ok(None),
+    };
+    Ok(Some(answer))
+}
+
+fn told(alloc: Global, text: &str) -> Result<String, Failed> {
+    Ok(String::from_str(alloc, text)?)
+}
+
+// The values of all places.
+fn places(
+    alloc: Global,
+    widths: &Form,
+    nodes: &Form,
+    root: usize,
+    words: &Form,
+) -> Result<String, Failed> {
+    let nodes = nodes_of(alloc, nodes)?;
+    let Some(flat) = formula(alloc, widths, nodes, root)? else {
+        return told(alloc, "no formula");
+    };
+    let words = words_of(alloc, words)?;
+    if !are_words(flat.widths.as_slice(), words.as_slice()) {
+        return told(alloc, "no words");
+    }
+    let values = flat_values(alloc, &flat, &words)?;
+    Ok(values_text(alloc, values.as_slice())?)
+}
+
+fn values_text(alloc: Global, values: &[Scalar]) -> Result<String, AllocError> {
+    let mut out = Shown::new(alloc);
+    for value in values {
+        out.part(" ")?;
+        shown_terms::scalar(&mut out, *value)?;
+    }
+    Ok(out.into_text())
+}
+
+fn fitting(alloc: Global, widths: &Form, words: &Form) -> Result<String, Failed> {
+    let widths = widths_of(alloc, widths)?;
+    let words = words_of(alloc, words)?;
+    let are_words = are_words(widths.as_slice(), words.as_slice());
+    told(alloc, if are_words { "true" } else { "false" })
+}
+
+fn solved(alloc: Global, widths: &Form, nodes: &Form) -> Result<String, Failed> {
+    match ending(alloc, widths, nodes)? {
+        Some(flat) => model(alloc, &flat),
+        None => told(alloc, "no formula"),
+    }
+}
+
+// Words that make a formula true.
+fn model(alloc: Global, flat: &Flat) -> Result<String, Failed> {
+    let circuit = blast(alloc, flat)?;
+    match search(alloc, &circuit.clauses)? {
+        Found::Model(model) => {
+            let words = words(alloc, &circuit, &model)?;
+            Ok(words_text(alloc, words.as_slice())?)
+        }
+        Found::Refuted(_) => told(alloc, "no model"),
+    }
+}
+
+fn words_text(alloc: Global, words: &[u64]) -> Result<String, AllocError> {
+    let mut out = Shown::new(alloc);
+    out.put("(")?;
+    for (place, word) in words.iter().enumerate() {
+        out.number(if place == 0 { "" } else { " " }, *word)?;
+    }
+    out.put(")")?;
+    Ok(out.into_text())
+}
+
+fn size(alloc: Global, widths: &Form, nodes: &Form) -> Result<String, Failed> {
+    let Some(flat) = ending(alloc, widths, nodes)? else {
+        return told(alloc, "no formula");
+    };
+    let circuit = blast(alloc, &flat)?;
+    Ok(clauses::size(alloc, &circuit.clauses)?)
+}
+
+// The formula whose root is the last node.
+fn ending(alloc: Global, widths: &Form, nodes: &Form) -> Result<Option<Flat>, Failed> {
+    let nodes = nodes_of(alloc, nodes)?;
+    let root = nodes.len().saturating_sub(1);
+    formula(alloc, widths, nodes, root)
+}
+
+fn formula(
+    alloc: Global,
+    widths: &Form,
+    nodes: FlatNodes,
+    root: usize,
+) -> Result<Option<Flat>, Failed> {
+    let widths = widths_of(alloc, widths)?;
+    if is_flat(alloc, nodes.as_slice(), widths.as_slice(), root)? {
+        Ok(Some(Flat {
+            nodes,
+            widths,
+            root,
+        }))
+    } else {
+        Ok(None)
+    }
+}
+
+fn widths_of(alloc: Global, form: &Form) -> Result<Widths, Failed> {
+    let mut widths = Items::new(alloc);
+    for width in list(form)? {
+        widths.push(operands::byte(width)?)?;
+    }
+    Ok(widths)
+}
+
+fn words_of(alloc: Global, form: &Form) -> Result<Words, Failed> {
+    let mut words = Items::new(alloc);
+    for word in list(form)? {
+        words.push(number(word)?)?;
+    }
+    Ok(words)
+}
+
+fn nodes_of(alloc: Global, form: &Form) -> Result<FlatNodes, Failed> {
+    let mut nodes = Items::new(alloc);
+    for part in list(form)? {
+        nodes.push(node(alloc, part)?)?;
+    }
+    Ok(nodes)
+}
+
+fn node(alloc: Global, form: &Form) -> Result<FlatNode, Failed> {
+    match &form.kind {
+        FormKind::List(parts) => match parts.as_slice() {
+            [head, input] if is_word(head, b"in") => Ok(FlatNode::Input(small(input)?)),
+            [head, places @ ..] if !is_number(head) => {
+                let op = operands::operator(head)?;
+                Ok(FlatNode::Apply(op, places_of(alloc, places)?))
+            }
+            _ => Ok(FlatNode::Fixed(operands::scalar(form)?)),
+        },
+        _ => Ok(FlatNode::Fixed(operands::scalar(form)?)),
+    }
+}
+
+fn is_number(form: &Form) -> bool {
+    matches!(form.kind, FormKind::Number(_))
+}
+
+fn places_of(alloc: Global, forms: &[Form]) -> Result<Places, Failed> {
+    let mut places = Items::new(alloc);
+    for form in forms {
+        places.push(small(form)?)?;
+    }
+    Ok(places)
+}
