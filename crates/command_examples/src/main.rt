@@ -6,7 +6,7 @@
 
 mod command;
 
-use example_cases::{Calls, Failed, Texts, list, run, small};
+use example_cases::{Calls, Failed, Texts, list, put_lines, run, small};
 use keq_cli::{MemoryShelf, MemorySink, Status, keq};
 use sexp_text::Form;
 use std::alloc::{AllocError, Global};
@@ -42,12 +42,7 @@ impl Calls for TopCall {
 fn told(alloc: Global, status: Status, taken: &[u8]) -> Result<String, AllocError> {
     let (name, code) = (status_name(status), status.code());
     let mut text = format!(in alloc; "{name} {code} \"")?;
-    for byte in taken {
-        match *byte {
-            b'\n' => text.push_str("\\n")?,
-            other => text.push(char::from(other))?,
-        }
-    }
+    put_lines(&mut text, taken)?;
     text.push_str("\"")?;
     Ok(text)
 }
@@ -63,5 +58,6 @@ fn status_name(status: Status) -> &'static str {
         Status::WriteFault => "write-fault",
         Status::NoMemory => "no-memory",
         Status::Usage => "usage",
+        Status::Done => "done",
     }
 }

@@ -5,9 +5,11 @@
 mod cases;
 mod failed;
 mod forms;
+mod lines;
 mod texts;
 
 pub use cases::{Calls, run};
 pub use failed::Failed;
 pub use forms::{is_word, list, number, small, word};
+pub use lines::put_lines;
 pub use texts::Texts;

@@ -1,11 +1,11 @@
 -- The first point that has variables or conditions.
-use Rattle.std.proofs.Common.{arith, ◌≡◌, ◌<◌, ◌≤◌, ◌⊎◌, inl, inr, ℕ, List, All, take, length, slice_get, Some, sym, ◌∙◌, subst}
+use Rattle.std.proofs.Common.{arith, ◌≡◌, ◌<◌, ◌≤◌, ◌⊎◌, inl, inr, ℕ, List, All, take, slice_get, Some, sym, ◌∙◌, subst}
 use Rattle.std.proofs.lemmas.Bool.{cases_lt}
 use Rattle.std.proofs.lemmas.List.{get_or-take, length-take}
 use Rattle.std.proofs.lemmas.Option.{same_Some, get_or_from_slice_get, slice_get_within}
 use Rattle.sort_term.specs.declared.points.Point.{Point}
 use Rattle.ground_judge.specs.Ground.{IsGroundPoint}
-use Rattle.keq_cli.specs.Outcome.{IsFirstOpen}
+use Rattle.keq_cli.specs.Tasks.{IsFirstOpen}
 
 -- one of points that all are ground is
 ground_at : (ps : List Point) (k : ℕ) (p : Point) → slice_get ps k ≡ Some p → All IsGroundPoint ps → IsGroundPoint p

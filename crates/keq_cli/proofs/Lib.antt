@@ -1,6 +1,11 @@
 pub mod Steps
+mod Fetched
+mod Stops
+mod TaskEnds
 mod FirstOpen
 mod Whole
-mod Unread
+mod Held
 mod Outcomes
+mod OneVerdict
+mod OneRun
 mod OneOutcome

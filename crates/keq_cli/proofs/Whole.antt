@@ -1,77 +1,142 @@
 -- What is said of the fetched fronts of texts holds of the texts.
-use Rattle.std.proofs.Common.{◌≡◌, ◌≤◌, ℕ, List, length, take, Option, None, Some, sym, ◌∙◌, ap, subst, arith}
-use Rattle.std.specs.Prelude.{IfSome}
+use Rattle.std.proofs.Common.{◌≡◌, ◌<◌, ◌≤◌, ◌+◌, ◌⊎◌, inl, inr, ℕ, List, [], length, map, take, slice_index_or, refl, ◌∙◌, ap, subst, arith}
+use Rattle.std.proofs.lemmas.Bool.{cases_lt}
 use Rattle.std.proofs.lemmas.List.{length-take, take_all}
+use Rattle.std.proofs.Math.ListN.{get_or-map}
+use Rattle.std.proofs.Math.Seq.{take-nil}
+use Rattle.sexp_text.specs.declared.fault.TextFault.{TextFault}
+use Rattle.sexp_text.specs.declared.fault.TextFault.TheVariants.{TooLong, NotAscii, BadChar, Unopened, Deep, BadNumber, LongName, Unclosed}
+use Rattle.sexp_text.specs.Faults.{IsFirstFault}
+use Rattle.sexp_text.specs.Text.{IsText}
+use Rattle.rule_text.specs.declared.error.LoadFault.{LoadFault}
+use Rattle.rule_text.specs.Faults.{Loading, IsTextOf, IsWholeText, IsFaultOf, in_bytes, in_item, in_whole}
+use Rattle.sort_term.specs.declared.points.Point.{Point}
 use Rattle.sort_term.specs.declared.points.Points.{Points}
-use Rattle.sort_term.specs.declared.problem.Problem.{Problem}
 use Rattle.sort_term.specs.Step.{Tables}
 use Rattle.sort_term.specs.System.{System}
-use Rattle.semantics_load.specs.Text.{IsSemanticsText}
-use Rattle.program_text.specs.Text.{IsProgramText}
-use Rattle.sync_points.specs.Text.{IsPointsText}
-use Rattle.keq_cli.specs.Outside.{FileMap, IsFetched}
-use Rattle.keq_cli.specs.Words.{Names, Check}
-use Rattle.keq_cli.specs.Texts.{AllFetched}
-use Rattle.keq_cli.specs.Outcome.{FiveTexts, texts_of, NoSemantics, NoProgram, NoPoints, FirstUnread, left_semantics, right_semantics, left_program, right_program, points, AreTextsOf, CheckEnds, unread, answered, AllHeld, Outcome, check}
-use Rattle.keq_cli.specs.declared.texts.Role.{Role}
-use Rattle.keq_cli.specs.declared.texts.Texts.{Texts}
+use Rattle.sort_term.specs.Tree.{Tree}
+use Rattle.semantics_load.specs.Declaring.{nothing}
+use Rattle.semantics_load.specs.Loads.{semantics_loading}
+use Rattle.semantics_load.specs.Text.{declared_by}
+use Rattle.program_text.specs.Rows.{no_rows, program_loading}
+use Rattle.program_text.specs.States.{no_start, start_loading}
+use Rattle.sync_points.specs.Pieces.{no_points}
+use Rattle.sync_points.specs.Loads.{points_loading}
+use Rattle.report_text.specs.declared.role.Role.{Role}
+use Rattle.report_text.specs.declared.role.Role.TheVariants.{LeftSemantics, RightSemantics, LeftProgram, RightProgram, Points as PointsRole, Semantics, Program, Start}
+use Rattle.keq_cli.specs.Words.{Task, check, run}
+use Rattle.keq_cli.specs.Plan.{Texts, Plan, loads, ends, Ends}
+use Rattle.keq_cli.specs.Tasks.{text_at, IsRefusal, with_semantics, with_program, with_start, with_points, with_ground, plan_of}
 use Rattle.keq_cli.specs.declared.status.Status.{Status}
 
--- a claim on texts that are short is true of a front exactly where it is of the whole
-module _ (P : List ℕ → Type 0) (short : (text : List ℕ) → P text → length text ≤ 1048576) where
-  to_whole : (all front : List ℕ) → front ≡ take 1048577 all → P front → P all
-  to_whole all front is p = let few = short front p in subst P (is ∙ take_all 1048577 all (omega (arith, few, length-take 1048577 all, ap length is))) p
+-- a front that is short is the whole text
+short_front : (all front : List ℕ) → front ≡ take 1048577 all → length front ≤ 1048576 → front ≡ all
+short_front all front is few = is ∙ take_all 1048577 all (omega (arith, few, length-take 1048577 all, ap length is))
 
-  to_front : (all front : List ℕ) → front ≡ take 1048577 all → P all → P front
-  to_front all front is p = let few = short all p in subst P (sym (is ∙ take_all 1048577 all (omega (arith, few)))) p
+-- a text that is too long is refused for that, and so is a front of it that is too long
+too_long : (all front : List ℕ) → 1048576 < length all → 1048576 < length front → (fault : TextFault) → IsFirstFault front fault → IsFirstFault all fault
+too_long all front long also (TooLong k) first = record { has = (first.has.0, long); first = λ other has. omega arith }
+too_long all front long also (NotAscii k) first = absurd (let low : k + 1 ≤ 0 = first.first (TooLong 1048576) (refl, also) in omega arith)
+too_long all front long also (BadChar k) first = absurd (let low : k + 1 ≤ 0 = first.first (TooLong 1048576) (refl, also) in omega arith)
+too_long all front long also (Unopened k) first = absurd (let low : k + 1 ≤ 0 = first.first (TooLong 1048576) (refl, also) in omega arith)
+too_long all front long also (Deep k) first = absurd (let low : k + 1 ≤ 0 = first.first (TooLong 1048576) (refl, also) in omega arith)
+too_long all front long also (BadNumber k) first = absurd (let low : k + 1 ≤ 0 = first.first (TooLong 1048576) (refl, also) in omega arith)
+too_long all front long also (LongName k) first = absurd (let low : k + 1 ≤ 0 = first.first (TooLong 1048576) (refl, also) in omega arith)
+too_long all front long also (Unclosed k) first = absurd (let low : k + 1 ≤ 0 = first.first (TooLong 1048576) (refl, also) in omega arith)
 
-module _ {files : FileMap} {name front : List ℕ} (f : IsFetched files name 1048577 front) where
-  whole_semantics : (s : System) → IsSemanticsText front s → IsSemanticsText f.all s
-  whole_semantics s = to_whole (λ text. IsSemanticsText text s) (λ text t. t.whole.text.text.short) f.all front f.front
+-- a front and its text have the same first fault of their bytes
+first_fault : (all front : List ℕ) → front ≡ take 1048577 all → (fault : TextFault) → IsFirstFault front fault → IsFirstFault all fault
+first_fault all front is fault first = by (cases_lt 1048577 (length all))
+  where
+    by : (1048577 < length all) ⊎ (length all ≤ 1048577) → IsFirstFault all fault
+    by (inl long) = too_long all front (omega (arith, long)) (omega (arith, long, length-take 1048577 all, ap length is)) fault first
+    by (inr short) = subst (λ (bytes : List ℕ). IsFirstFault bytes fault) (is ∙ take_all 1048577 all short) first
 
-  no_semantics : NoSemantics front → NoSemantics f.all
-  no_semantics none s t = none s (to_front (λ text. IsSemanticsText text s) (λ text t. t.whole.text.text.short) f.all front f.front t)
+module _ {D : Type 0} (l : Loading D) (start : D) (all front : List ℕ) (is : front ≡ take 1048577 all) where
+  -- the value of a front is that of its text
+  whole_value : (d : D) → IsWholeText l start front d → IsWholeText l start all d
+  whole_value d t = subst (λ (bytes : List ℕ). IsWholeText l start bytes d) (short_front all front is t.text.text.short) t
 
-  whole_program : (s : System) (p : Tables) → IsProgramText s front p → IsProgramText s f.all p
-  whole_program s p = to_whole (λ text. IsProgramText s text p) (λ text t. t.whole.text.text.short) f.all front f.front
+  -- and so is its first fault
+  whole_fault : (fault : LoadFault) → IsFaultOf l start front fault → IsFaultOf l start all fault
+  whole_fault _ (in_bytes fault first) = in_bytes fault (first_fault all front is fault first)
+  whole_fault _ (in_item forms place fault text at) = in_item forms place fault (subst (λ (bytes : List ℕ). IsText bytes forms) (short_front all front is text.short) text) at
+  whole_fault _ (in_whole d fault text lacks) = in_whole d fault (subst (λ (bytes : List ℕ). IsTextOf l start bytes d) (short_front all front is text.text.short) text) lacks
 
-  no_program : (s : System) → NoProgram s front → NoProgram s f.all
-  no_program s none p t = none p (to_front (λ text. IsProgramText s text p) (λ text t. t.whole.text.text.short) f.all front f.front t)
+  whole_refusal : (role : Role) (line : List ℕ) → IsRefusal role (IsFaultOf l start front) line → IsRefusal role (IsFaultOf l start all) line
+  whole_refusal role line r = record { fault = r.fault; first = whole_fault r.fault r.first; is = r.is }
 
-  whole_points : (l r : System) (p : Points) → IsPointsText l r front p → IsPointsText l r f.all p
-  whole_points l r p = to_whole (λ text. IsPointsText l r text p) (λ text t. t.whole.text.text.short) f.all front f.front
+-- each step of a plan says of texts what it says of their fronts
+Carries : Texts → Texts → Plan → Type 0
+Carries fronts texts (loads A Makes Refuses next) = ((made : A) → Makes fronts made → Makes texts made) × ((line : List ℕ) → Refuses fronts line → Refuses texts line) × ((made : A) → Carries fronts texts (next made))
+Carries fronts texts (ends End) = Unit {0}
 
-  no_points : (l r : System) → NoPoints l r front → NoPoints l r f.all
-  no_points l r none p t = none p (to_front (λ text. IsPointsText l r text p) (λ text t. t.whole.text.text.short) f.all front f.front t)
+-- so does the plan
+carried : (fronts texts : Texts) (p : Plan) → Carries fronts texts p → (status : Status) (report : List ℕ) → Ends p fronts status report → Ends p texts status report
+unfolding Carries
+carried fronts texts (loads A Makes Refuses next) c status report (inl refused) = inl (refused.0, c.1 report refused.1)
+carried fronts texts (loads A Makes Refuses next) c status report (inr made) = inr (made.0, c.0 made.0 made.1, carried fronts texts (next made.0) (c.2 made.0) status report made.2)
+carried fronts texts (ends End) c status report e = e
 
-module _ {files : FileMap} {names : Names} {texts : Texts} (a : AllFetched files names 1048577 texts) where
-  abbrev wholes : FiveTexts
-  wholes = record { left_semantics = a.left_semantics.all; right_semantics = a.right_semantics.all; left_program = a.left_program.all; right_program = a.right_program.all; points = a.points.all }
+module _ (fronts texts : Texts) (are : fronts ≡ map (take 1048577) texts) where
+  front_at : (k : ℕ) → text_at fronts k ≡ take 1048577 (text_at texts k)
+  front_at k =
+      ap (λ (fs : Texts). text_at fs k) are
+      ∙ subst (λ (none : List ℕ). slice_index_or (map (take 1048577) texts) k none ≡ take 1048577 (text_at texts k)) (take-nil 1048577) (get_or-map (take 1048577) texts k [])
 
-  whole_held : AllHeld files names wholes
-  whole_held = record { left_semantics = a.left_semantics.held; right_semantics = a.right_semantics.held; left_program = a.left_program.held; right_program = a.right_program.held; points = a.points.held }
+  carries_semantics : (role : Role) (k : ℕ) (next : System → Plan) → ((s : System) → Carries fronts texts (next s)) → Carries fronts texts (with_semantics role k next)
+  unfolding Carries
+  carries_semantics role k next more = (
+    λ s t. record { whole = whole_value semantics_loading nothing (text_at texts k) (text_at fronts k) (front_at k) (declared_by s) t.whole },
+    whole_refusal semantics_loading nothing (text_at texts k) (text_at fronts k) (front_at k) role,
+    more,
+  )
 
-  whole_unread : (role : Role) → FirstUnread (texts_of texts) role → FirstUnread wholes role
-  whole_unread _ (left_semantics none) = left_semantics (no_semantics a.left_semantics none)
-  whole_unread _ (right_semantics l ls none) = right_semantics l (whole_semantics a.left_semantics l ls) (no_semantics a.right_semantics none)
-  whole_unread _ (left_program l r ls rs none) = left_program l r (whole_semantics a.left_semantics l ls) (whole_semantics a.right_semantics r rs) (no_program a.left_program l none)
-  whole_unread _ (right_program l r lp ls rs lps none) = right_program l r lp (whole_semantics a.left_semantics l ls) (whole_semantics a.right_semantics r rs) (whole_program a.left_program l lp lps) (no_program a.right_program r none)
-  whole_unread _ (points l r lp rp ls rs lps rps none) = points l r lp rp (whole_semantics a.left_semantics l ls) (whole_semantics a.right_semantics r rs) (whole_program a.left_program l lp lps) (whole_program a.right_program r rp rps) (no_points a.points l r none)
+  carries_program : (role : Role) (k : ℕ) (s : System) (next : Tables → Plan) → ((p : Tables) → Carries fronts texts (next p)) → Carries fronts texts (with_program role k s next)
+  unfolding Carries
+  carries_program role k s next more = (
+    λ p t. record { whole = whole_value program_loading (no_rows s) (text_at texts k) (text_at fronts k) (front_at k) _ t.whole },
+    whole_refusal program_loading (no_rows s) (text_at texts k) (text_at fronts k) (front_at k) role,
+    more,
+  )
 
-  whole_texts : (q : Problem) → AreTextsOf (texts_of texts) q → AreTextsOf wholes q
-  whole_texts q t = record {
-    left = whole_semantics a.left_semantics q.left t.left;
-    right = whole_semantics a.right_semantics q.right t.right;
-    left_program = whole_program a.left_program q.left q.left_program t.left_program;
-    right_program = whole_program a.right_program q.right q.right_program t.right_program;
-    points = whole_points a.points q.left q.right q.points t.points;
-  }
+  carries_start : (role : Role) (k : ℕ) (s : System) (next : Tree → Plan) → ((t : Tree) → Carries fronts texts (next t)) → Carries fronts texts (with_start role k s next)
+  unfolding Carries
+  carries_start role k s next more = (
+    λ tree t. record { whole = whole_value start_loading (no_start s) (text_at texts k) (text_at fronts k) (front_at k) _ t.whole },
+    whole_refusal start_loading (no_start s) (text_at texts k) (text_at fronts k) (front_at k) role,
+    more,
+  )
 
-  whole_ends : (steps : ℕ) (status : Status) (report : List ℕ) → CheckEnds (texts_of texts) steps status report → CheckEnds wholes steps status report
-  whole_ends steps _ _ (unread role first) = unread role (whole_unread role first)
-  whole_ends steps _ _ (answered q status report t how) = answered q status report (whole_texts q t) how
+  carries_points : (role : Role) (k : ℕ) (left right : System) (next : Points → Plan) → ((p : Points) → Carries fronts texts (next p)) → Carries fronts texts (with_points role k left right next)
+  unfolding Carries
+  carries_points role k left right next more = (
+    λ p t. record { whole = whole_value points_loading (no_points left right) (text_at texts k) (text_at fronts k) (front_at k) _ t.whole },
+    whole_refusal points_loading (no_points left right) (text_at texts k) (text_at fronts k) (front_at k) role,
+    more,
+  )
 
--- the end of a check of the fetched texts is an outcome
-pub fetched_outcome : (held : Option FileMap) (names : Names) (texts : Texts) → IfSome held (λ files. AllFetched files names 1048577 texts) → (steps : ℕ) (status : Status) (report : List ℕ) → CheckEnds (texts_of texts) steps status report → Outcome held (Some (Check names steps)) status report
-fetched_outcome None names texts fetched steps status report ends = check names steps (texts_of texts) status report tt ends
-fetched_outcome (Some files) names texts fetched steps status report ends = check names steps (wholes fetched) status report (whole_held fetched) (whole_ends fetched steps status report ends)
+  carries_ground : (points : List Point) (next : Plan) → Carries fronts texts next → Carries fronts texts (with_ground points next)
+  unfolding Carries
+  carries_ground points next more = (λ _ ground. ground, λ line refuses. refuses, λ _. more)
+
+  carries_end : (End : Status → List ℕ → Type 0) → Carries fronts texts (ends End)
+  unfolding Carries
+  carries_end End = tt
+
+  carries_task : (task : Task) → Carries fronts texts (plan_of task)
+  carries_task (check steps) =
+      carries_semantics LeftSemantics 0 _ (λ left.
+      carries_semantics RightSemantics 1 _ (λ right.
+      carries_program LeftProgram 2 left _ (λ lp.
+      carries_program RightProgram 3 right _ (λ rp.
+      carries_points PointsRole 4 left right _ (λ points.
+      carries_ground points.points _ (carries_end _))))))
+  carries_task (run steps) =
+      carries_semantics Semantics 0 _ (λ s.
+      carries_program Program 1 s _ (λ program.
+      carries_start Start 2 s _ (λ start. carries_end _)))
+
+  -- a task ends on texts as it does on their fronts
+  pub whole_ends : (task : Task) (status : Status) (report : List ℕ) → Ends (plan_of task) fronts status report → Ends (plan_of task) texts status report
+  whole_ends task status report e = carried fronts texts (plan_of task) (carries_task task) status report e

@@ -3,7 +3,10 @@ pub mod Words
 pub mod Asked
 pub mod Outside
 pub mod Reports
+pub mod Plan
+pub mod Tasks
+pub mod Made
 pub mod Texts
 pub mod Memory
-pub mod Loading
+pub mod Stopping
 pub mod Outcome

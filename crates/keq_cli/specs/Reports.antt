@@ -1,20 +1,11 @@
 -- What a call reports.
 use Rattle.std.specs.Prelude.{ℕ, List, ◌++◌, codes}
 use Rattle.sort_term.specs.Simulation.{Test, void, outside, long, halted}
-use Rattle.keq_cli.specs.declared.texts.Role.{Role}
-use Rattle.keq_cli.specs.declared.texts.Role.TheVariants.{LeftSemantics, RightSemantics, LeftProgram, RightProgram, Points}
-
--- the name of a text in a report
-abbrev pub role_name : Role → List ℕ
-role_name LeftSemantics = codes "left-semantics"
-role_name RightSemantics = codes "right-semantics"
-role_name LeftProgram = codes "left-program"
-role_name RightProgram = codes "right-program"
-role_name Points = codes "points"
+use Rattle.report_text.specs.Lines.{line_of, point_text}
 
 -- the line that names a point
 abbrev pub point_line : List ℕ → List ℕ
-point_line name = codes "point " ++ name ++ codes "\n"
+point_line name = line_of (point_text name)
 
 -- the word for a test
 abbrev pub test_word : Test → List ℕ
@@ -39,10 +30,6 @@ not_grounded_line test = codes "not grounded: " ++ test_word test ++ codes "\n"
 
 abbrev pub not_grounded_lines : Test → List ℕ → List ℕ
 not_grounded_lines test name = not_grounded_line test ++ point_line name
-
--- of a text that doesn't load
-abbrev pub unread_line : Role → List ℕ
-unread_line role = codes "refused " ++ role_name role ++ codes " unread\n"
 
 -- of points of which the one with this name has variables or conditions
 abbrev pub variables_line : List ℕ → List ℕ

@@ -1,7 +1,7 @@
 -- How a call ends.
 use Rattle.std.specs.Prelude.{ℕ, ⊤}
 use Rattle.keq_cli.specs.declared.status.Status.{Status}
-use Rattle.keq_cli.specs.declared.status.Status.TheVariants.{Equivalent, Refines, Unmatched, NotGrounded, Refused, ReadFault, WriteFault, NoMemory, Usage}
+use Rattle.keq_cli.specs.declared.status.Status.TheVariants.{Equivalent, Refines, Unmatched, NotGrounded, Refused, ReadFault, WriteFault, NoMemory, Usage, Done}
 
 -- the number that the process ends with
 abbrev pub code_of : Status → ℕ
@@ -14,6 +14,7 @@ code_of ReadFault = 5
 code_of WriteFault = 6
 code_of NoMemory = 7
 code_of Usage = 8
+code_of Done = 0
 
 -- the call came to its end: no fetch and no put failed, and memory was found
 abbrev pub IsAnswer : Status → Type 0

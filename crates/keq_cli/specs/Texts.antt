@@ -1,30 +1,27 @@
--- The five texts of a check, and what a shelf holds of them.
-use Rattle.std.specs.Prelude.{ℕ, Bool, IsTrue, Option, Some, None, IfSome, ⊤}
-use Rattle.keq_cli.specs.Outside.{FileMap, IsHeld, IsFetched}
-use Rattle.keq_cli.specs.Words.{Names, Command, Check}
-use Rattle.keq_cli.specs.declared.texts.Texts.{Texts}
+-- The texts that a command asks for, and what a shelf holds of them.
+use Rattle.std.specs.Prelude.{◌≡◌, Bool, IsTrue, List, map, take, length, All, Option, Some, IfSome, option_map}
+use Rattle.std.specs.FinMap.{get}
+use Rattle.keq_cli.specs.Outside.{FileMap, IsHeld}
+use Rattle.keq_cli.specs.Plan.{Texts}
+use Rattle.keq_cli.specs.Words.{Ask, Command, files_asked}
 
--- all five names are held
-pub record HoldsAll (files : FileMap) (names : Names) : Type 0 where
-  pub left_semantics : IsHeld files names.left_semantics
-  pub right_semantics : IsHeld files names.right_semantics
-  pub left_program : IsHeld files names.left_program
-  pub right_program : IsHeld files names.right_program
-  pub points : IsHeld files names.points
-
--- each name that the command has is held
+-- each file that is asked for is held
 abbrev pub HoldsNamed : FileMap → Option Command → Type 0
-HoldsNamed files None = ⊤
-HoldsNamed files (Some (Check names steps)) = HoldsAll files names
+HoldsNamed files command = All (λ ask. IsHeld files ask.name) (files_asked command)
 
--- a steady shelf that holds each name that the command has, where it tells what it holds
+-- a steady shelf that holds each file that is asked for, where it tells what it holds
 abbrev pub HoldsSteadily : Bool → Option FileMap → Option Command → Type 0
 HoldsSteadily steady held command = IsTrue steady × IfSome held (λ files. HoldsNamed files command)
 
--- each text is the front of what is held under its name
-pub record AllFetched (files : FileMap) (names : Names) (most : ℕ) (texts : Texts) : Type 0 where
-  pub left_semantics : IsFetched files names.left_semantics most texts.left_semantics.items
-  pub right_semantics : IsFetched files names.right_semantics most texts.right_semantics.items
-  pub left_program : IsFetched files names.left_program most texts.left_program.items
-  pub right_program : IsFetched files names.right_program most texts.right_program.items
-  pub points : IsFetched files names.points most texts.points.items
+-- what is held under the names, in their order, is these texts
+abbrev pub AreHeld : FileMap → List Ask → Texts → Type 0
+AreHeld files asks texts = map (λ ask. get files ask.name) asks ≡ map Some texts
+
+-- the first bytes of what is held under the names, as many as are asked for, are these fronts
+abbrev pub AreFetched : FileMap → List Ask → Texts → Type 0
+AreFetched files asks fronts = map (λ ask. option_map (take ask.most) (get files ask.name)) asks ≡ map Some fronts
+
+-- texts for what is asked: as many, and where the shelf tells what it holds, what is held under the names
+pub record MayHold (held : Option FileMap) (asks : List Ask) (texts : Texts) : Type 0 where
+  pub as_many : length texts ≡ length asks
+  pub told : IfSome held (λ files. AreHeld files asks texts)

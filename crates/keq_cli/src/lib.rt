@@ -3,11 +3,14 @@
 
 mod answer;
 mod check;
+mod commands;
+mod fetching;
 mod laws;
 mod loading;
 mod memory_shelf;
 mod memory_sink;
 mod outside;
+mod run;
 mod status;
 mod texts;
 mod top;
@@ -18,6 +21,6 @@ pub use memory_shelf::{CallList, Files, MemoryShelf, NamedText};
 pub use memory_sink::MemorySink;
 pub use no_memory::NoMemory;
 pub use outside::{Failed, Fetch, Shelf, Sink};
+pub use report_text::Role;
 pub use status::Status;
-pub use texts::Role;
 pub use top::keq;

@@ -14,7 +14,8 @@ pub enum Status {
     Unmatched,
     /// It isn't grounded. The report names the first point that isn't, and the test that it has.
     NotGrounded,
-    /// A text does not load. The report says which is the first.
+    /// A text does not load, or a point has variables or conditions. The report says which is the first, and of a text its
+    /// first fault.
     Refused,
     /// A text could not be fetched. Nothing was written.
     ReadFault,
@@ -24,6 +25,8 @@ pub enum Status {
     NoMemory,
     /// The words of the command line have no form that is known.
     Usage,
+    /// A run came to its end. The report is the run.
+    Done,
 }
 
 impl Status {
@@ -41,6 +44,7 @@ impl Status {
             Status::WriteFault => 6,
             Status::NoMemory => 7,
             Status::Usage => 8,
+            Status::Done => 0,
         }
     }
 }

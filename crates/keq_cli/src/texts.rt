@@ -1,38 +1,19 @@
-// The five texts of a check.
+// The fetched fronts of texts.
 ghost use Rattle.std.specs.Prelude.{◌≡◌};
-ghost use Rattle.keq_cli.specs.Reports.{role_name};
+ghost use Rattle.keq_cli.specs.Tasks.{text_at};
 
-/// Which of the five texts is meant.
-#[derive(Clone, Copy, Debug, PartialEq, Eq)]
-pub enum Role {
-    LeftSemantics,
-    RightSemantics,
-    LeftProgram,
-    RightProgram,
-    Points,
-}
+use sexp_text::Bytes;
+use sqlite_items::Items;
 
-impl Role {
-    /// Its name in a report.
-    pub fn name(self) -> &'static str
-        ensures { result.now ≡ role_name self }
-    {
-        match self {
-            Role::LeftSemantics => "left-semantics",
-            Role::RightSemantics => "right-semantics",
-            Role::LeftProgram => "left-program",
-            Role::RightProgram => "right-program",
-            Role::Points => "points",
-        }
+/// The fetched fronts of a command's texts, in the order of their names.
+pub type Texts = Items<Bytes>;
+
+/// The front at a place. Where there is none, it is empty.
+pub fn text_at(texts: &Texts, place: usize) -> &[u8]
+    ensures { result.now ≡ text_at texts.now place }
+{
+    match texts.get(place) {
+        Some(text) => text.as_slice(),
+        None => &[],
     }
-}
-
-/// The fetched fronts of the five texts.
-#[derive(Debug, Drop)]
-pub struct Texts {
-    pub left_semantics: Vec<u8>,
-    pub right_semantics: Vec<u8>,
-    pub left_program: Vec<u8>,
-    pub right_program: Vec<u8>,
-    pub points: Vec<u8>,
 }

@@ -1,4 +1,4 @@
-// The top call: words, fetches, a verdict, and one put of the whole report.
+// The top call: words, fetches, a task, and one put of the whole report.
 ghost use Rattle.std.specs.Prelude.{◌≡◌, ◌≢◌, ◌⊎◌, ◌<◌, ◌≤◌, None, IfSome};
 ghost use Rattle.keq_cli.specs.Outside.{Rose, IsTaken, IsFrontTaken, count_after};
 ghost use Rattle.keq_cli.specs.Words.{asked, file_count};
@@ -7,17 +7,23 @@ ghost use Rattle.keq_cli.specs.Reports.{bad_words_line};
 ghost use Rattle.keq_cli.specs.Texts.{HoldsNamed, HoldsSteadily};
 ghost use Rattle.keq_cli.specs.Outcome.{IsReported, IsFrontReported};
 
-use crate::check::run_check;
+use crate::commands::answer_command;
 use crate::words::parse_words;
 use crate::{Failed, Fetch, Shelf, Sink, Status};
 use std::alloc::Global;
 
-/// Runs one command: reads the words, fetches the texts that they name, judges them, and puts the report in one piece.
+/// Runs one command: reads the words, fetches the texts that they name, does the command's task with them, and puts the
+/// report in one piece.
 ///
-/// `words` are those of the command line without the program's name. They have one of two forms,
-/// `check LEFT-SEMANTICS RIGHT-SEMANTICS LEFT-PROGRAM RIGHT-PROGRAM POINTS`, and the same with a last word STEPS, of one to
-/// five ASCII digits with a value from 1 to 10,000. Without STEPS it is 1,000. All fetches come before the first text is
-/// loaded, in the order of the words, one for each file. The first that fails ends the call.
+/// `words` are those of the command line without the program's name. They have the form of one of two commands:
+///
+/// - `check LEFT-SEMANTICS RIGHT-SEMANTICS LEFT-PROGRAM RIGHT-PROGRAM POINTS`, with or without a last word STEPS, judges the
+///   points, by runs of at most STEPS steps to the next state of the cut. Without STEPS it is 1,000.
+/// - `run SEMANTICS PROGRAM START STEPS` runs the program from the start, at each state by the first rule that gives a step,
+///   until STEPS steps are taken or a state has none.
+///
+/// STEPS has one to five ASCII digits and a value from 1 to 10,000. All fetches come before the first text is loaded, in the
+/// order of the words, one for each file. The first that fails ends the call.
 ///
 /// What the clauses say of the bytes taken holds where the sink tells them, and what they say of the texts held where
 /// the shelf tells them. All else holds over every shelf and every sink. `NoMemory` is free, but for words of no form.
@@ -31,8 +37,9 @@ pub fn keq<F: Shelf, O: Sink>(alloc: Global, words: &[String], shelf: &mut F, ou
     ensures usage_only { result ≡ Status.Usage → asked words.now ≡ None }
 
     // An answer, which is none of `ReadFault`, `WriteFault` and `NoMemory`, is an outcome of what the words ask for, and
-    // exactly its report was taken; on `WriteFault` a front of the report of an outcome. A check ends as some five texts
-    // do. Where the shelf tells what it holds, each named text is held, and the five are these: there is one outcome.
+    // exactly its report was taken; on `WriteFault` a front of the report of an outcome. A command ends as it does on some
+    // texts, one for each name. Where the shelf tells what it holds, each named text is held, and the texts are these: there
+    // is one outcome.
     ensures outcome { IsAnswer result → IsReported (F.holds shelf.old) (asked words.now) result (O.taken out.old) (O.taken out.new) }
     ensures front { result ≡ Status.WriteFault → IsFrontReported (F.holds shelf.old) (asked words.now) (O.taken out.old) (O.taken out.new) }
     ensures held { IsAnswer result → IfSome (F.holds shelf.old) (λ files. HoldsNamed files (asked words.now)) }
@@ -62,10 +69,10 @@ pub fn keq<F: Shelf, O: Sink>(alloc: Global, words: &[String], shelf: &mut F, ou
     // On `NoMemory` the sink was not called.
     ensures memory_alone { result ≡ Status.NoMemory → out.new ≡ out.old }
 {
-    let Some(check) = parse_words(words) else {
+    let Some(command) = parse_words(words) else {
         return put_report(out, Status::Usage, b"bad command line\n");
     };
-    match run_check(alloc, &check, shelf) {
+    match answer_command(alloc, &command, shelf) {
         Ok(answer) => put_report(out, answer.status, answer.report.as_slice()),
         Err(Fetch::Failed) => Status::ReadFault,
         Err(Fetch::NoMemory) => Status::NoMemory,

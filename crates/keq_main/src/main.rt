@@ -1,4 +1,4 @@
-//! Judges five files, named by the words of the command line.
+//! Runs the command of the command line on files of the system.
 #![tactic(auto)]
 
 mod file_shelf;

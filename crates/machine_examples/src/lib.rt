@@ -3,6 +3,7 @@
 
 mod loaded;
 mod matching;
+mod reports;
 mod running;
 mod terms;
 mod verdicts;
@@ -28,5 +29,8 @@ pub fn answer(
     if let Some(answer) = running::answer(alloc, texts, name, arguments)? {
         return Ok(Some(answer));
     }
-    verdicts::answer(alloc, texts, name, arguments)
+    if let Some(answer) = verdicts::answer(alloc, texts, name, arguments)? {
+        return Ok(Some(answer));
+    }
+    reports::answer(alloc, texts, name, arguments)
 }

@@ -1,10 +1,15 @@
-use Rattle.rule_text.proofs.OneEnd.{no_value_and_fault}
+use Rattle.std.proofs.Common.{List, ℕ, subst}
+use Rattle.rule_text.specs.Faults.{IsLoadError}
 use Rattle.program_text.specs.Rows.{no_rows, program_loading}
-use Rattle.program_text.proofs.Programs.{row_adds_one}
-use Rattle.keq_cli.proofs.Unread.{unread_has_fault}
+use Rattle.program_text.specs.Text.{IsProgramText}
+use Rattle.keq_cli.specs.Tasks.{text_at}
+use Rattle.keq_cli.proofs.Stops.{stops_refused}
 use Rattle.keq_cli.proofs.loading.program.Goals as goal
 
-pub returns-in-Err-clause-unread : goal.returns-in-Err-clause-unread
-returns-in-Err-clause-unread g c = λ named e.
-    let told = unread_has_fault program_loading (no_rows c.args.semantics.now) c.args.text.now named _ c.in-Err.error _ c.named.ensures e c.in-Err.ensures.fault in
-    (told.0, λ p text. no_value_and_fault program_loading row_adds_one (no_rows c.args.semantics.now) c.args.text.now (record { semantics = c.args.semantics.now; rows = p }) told.1.0 text.whole told.1.1)
+pub returns-in-Ok-clause-made : goal.returns-in-Ok-clause-made
+returns-in-Ok-clause-made g c = subst (λ (bytes : List ℕ). IsProgramText c.args.semantics.now bytes c.in-Ok.program) c.text_at.ensures c.in-Ok.ensures.ok
+
+pub returns-in-Err-clause-stops : goal.returns-in-Err-clause-stops
+returns-in-Err-clause-stops g c =
+    let start = no_rows c.args.semantics.now in
+    stops_refused program_loading start (text_at c.args.texts.now c.args.place) c.args.role c.in-Err.error c.stopped_by.result c.stopped_by.ensures (subst (λ (bytes : List ℕ). IsLoadError program_loading start bytes c.in-Err.error) c.text_at.ensures c.in-Err.ensures.fault)
