@@ -1,9 +1,9 @@
 -- Places and the values that they spell.
-use Rattle.std.proofs.Common.{ℕ, ◌≡◌, ◌<◌, ◌+◌, ◌^◌, Bool, true, false, not, if◌then◌else◌, List, [], ◌∷◌, ◌++◌, length, take, map, get_or, All, Some, None, Option, IsSome, IsTrue, is_some, unwrap_or, nat_lt, refl, ap, ◌∙◌, sym, subst, arith}
+use Rattle.std.proofs.Common.{ℕ, zero, suc, ◌≡◌, ◌<◌, ◌+◌, ◌^◌, Bool, true, false, not, if◌then◌else◌, List, [], ◌∷◌, ◌++◌, length, take, map, get_or, All, Some, None, Option, IsSome, IsTrue, is_some, unwrap_or, nat_lt, refl, ap, ◌∙◌, sym, subst, arith}
 use Rattle.std.specs.List.{list_all}
 use Rattle.std.proofs.lemmas.Bool.{and_parts, ltb-true}
 use Rattle.std.proofs.lemmas.List.{length-map, map_push, get_or_read, get_or-map}
-use Rattle.std.proofs.lemmas.List.Elements.{All-nil, All-push, All-same, All-weaker, All-map}
+use Rattle.std.proofs.lemmas.List.Elements.{All-get_or, All-nil, All-push, All-same, All-weaker, All-map}
 use Rattle.std.proofs.Math.Nat.{mod-eq_of_lt}
 use Rattle.refute_check.specs.declared.lit.Lit.{Lit}
 use Rattle.refute_check.specs.Truth.{lit_true, flipped}
@@ -16,7 +16,7 @@ use Rattle.data_value.specs.declared.Op.{Op}
 use Rattle.data_value.specs.declared.Op.TheVariants.{Not, Eq}
 use Rattle.data_value.specs.declared.flat_formula.FlatNode.{FlatNode}
 use Rattle.data_value.specs.declared.flat_formula.FlatNode.TheVariants.{Input, Fixed, Apply}
-use Rattle.data_value.specs.Sorts.{IsWidth, op_sort}
+use Rattle.data_value.specs.Sorts.{IsWidth, IsSort, op_sort}
 use Rattle.data_value.specs.Words.{wrap}
 use Rattle.data_value.specs.Values.{scalar_sort, is_scalar}
 use Rattle.data_value.specs.Ops.{scalar_value}
@@ -68,6 +68,17 @@ fixed_word b w x zs l h = record {
 }
 
 -- ---- an operator's arguments
+one_item : (xs : List ℕ) → length xs ≡ 1 → xs ≡ get_or xs 0 0 ∷ []
+one_item [] h = absurd (omega arith)
+one_item (x ∷ []) h = refl
+one_item (x ∷ y ∷ xs) h = absurd (omega arith)
+
+two_items : (xs : List ℕ) → length xs ≡ 2 → xs ≡ get_or xs 0 0 ∷ get_or xs 1 0 ∷ []
+two_items [] h = absurd (omega arith)
+two_items (x ∷ []) h = absurd (omega arith)
+two_items (x ∷ y ∷ []) h = refl
+two_items (x ∷ y ∷ z ∷ xs) h = absurd (omega arith)
+
 three_items : (xs : List ℕ) → length xs ≡ 3 → xs ≡ get_or xs 0 0 ∷ get_or xs 1 0 ∷ get_or xs 2 0 ∷ []
 three_items [] h = absurd (omega arith)
 three_items (x ∷ []) h = absurd (omega arith)
@@ -75,19 +86,61 @@ three_items (x ∷ y ∷ []) h = absurd (omega arith)
 three_items (x ∷ y ∷ z ∷ []) h = refl
 three_items (x ∷ y ∷ z ∷ u ∷ xs) h = absurd (omega arith)
 
-pub three_places : (b : Builder) (op : Op) (places : List Place) (args : List ℕ) (x y z p : Place) → length args ≡ 3 → IsTrue (list_all (λ k. nat_lt k (length places)) args)
-    → x ≡ get_or places (get_or args 0 0) x → y ≡ get_or places (get_or args 1 0) y → z ≡ get_or places (get_or args 2 0) z → HasOpValue b op (x ∷ y ∷ z ∷ []) p → (d : Place) → HasOpValue b op (at_places d places args) p
-three_places b op places args x y z p l t e f g h d =
-    let items = three_items args l in
-    let all : IsTrue (list_all (λ k. nat_lt k (length places)) (get_or args 0 0 ∷ get_or args 1 0 ∷ get_or args 2 0 ∷ [])) = subst (λ (ks : List ℕ). IsTrue (list_all (λ k. nat_lt k (length places)) ks)) items t in
-    let p0 = and_parts _ _ all in
-    let p1 = and_parts _ _ p0.1 in
-    let p2 = and_parts _ _ p1.1 in
-    let at0 = get_or_read places (get_or args 0 0) x (ltb-true _ _ p0.0) e d in
-    let at1 = get_or_read places (get_or args 1 0) y (ltb-true _ _ p1.0) f d in
-    let at2 = get_or_read places (get_or args 2 0) z (ltb-true _ _ p2.0) g d in
-    let same : x ∷ y ∷ z ∷ [] ≡ at_places d places args = cc in
-    subst (λ (ps : List Place). HasOpValue b op ps p) same h
+all_at : (test : ℕ → Bool) (xs : List ℕ) (i : ℕ) → i < length xs → IsTrue (list_all test xs) → IsTrue (test (get_or xs i 0))
+all_at test [] i l t = absurd (omega arith)
+all_at test (x ∷ xs) zero l t = (and_parts _ _ t).0
+all_at test (x ∷ xs) (suc i) l t = all_at test xs i (omega arith) (and_parts _ _ t).1
+
+module _ (places : List Place) (args : List ℕ) (before : IsTrue (list_all (λ k. nat_lt k (length places)) args)) where
+  -- x is the place of the argument with the number i
+  abbrev IsArg : ℕ → Place → Type 0
+  IsArg i x = x ≡ get_or places (get_or args i 0) x
+
+  pub arg_below : (i : ℕ) → i < length args → get_or args i 0 < length places
+  arg_below i l = ltb-true _ _ (all_at (λ k. nat_lt k (length places)) args i l before)
+
+  pub arg_has : (P : Place → Type 0) (i : ℕ) (x : Place) → i < length args → IsArg i x → All P places → P x
+  arg_has P i x l e all = subst P (sym e) (All-get_or P places (get_or args i 0) x (arg_below i l) all)
+
+  arg_at : (i : ℕ) (x : Place) → i < length args → IsArg i x → (d : Place) → x ≡ get_or places (get_or args i 0) d
+  arg_at i x l e d = get_or_read places (get_or args i 0) x (arg_below i l) e d
+
+  pub one_place : (x : Place) → length args ≡ 1 → IsArg 0 x → (d : Place) → x ∷ [] ≡ at_places d places args
+  one_place x l e d =
+      let items = one_item args l in
+      let at0 = arg_at 0 x (omega arith) e d in
+      cc
+
+  pub two_places : (x y : Place) → length args ≡ 2 → IsArg 0 x → IsArg 1 y → (d : Place) → x ∷ y ∷ [] ≡ at_places d places args
+  two_places x y l e f d =
+      let items = two_items args l in
+      let at0 = arg_at 0 x (omega arith) e d in
+      let at1 = arg_at 1 y (omega arith) f d in
+      cc
+
+  pub three_places : (x y z : Place) → length args ≡ 3 → IsArg 0 x → IsArg 1 y → IsArg 2 z → (d : Place) → x ∷ y ∷ z ∷ [] ≡ at_places d places args
+  three_places x y z l e f g d =
+      let items = three_items args l in
+      let at0 = arg_at 0 x (omega arith) e d in
+      let at1 = arg_at 1 y (omega arith) f d in
+      let at2 = arg_at 2 z (omega arith) g d in
+      cc
+
+  -- where these are the arguments' places, what the operator says of their sorts and values is so
+  module _ (op : Op) (xs : List Place) (are : (d : Place) → xs ≡ at_places d places args) where
+    pub args_sorted : IsSome (op_sort op (at_places BoolSort (map place_sort places) args)) → IsSome (op_sort op (map place_sort xs))
+    args_sorted s =
+        let d = Flag (constant_lit true) in
+        subst (λ (ss : List DataSort). IsSome (op_sort op ss)) (at_places-map place_sort d places args ∙ ap (map place_sort) (sym (are d))) s
+
+    pub args_valued : (b : Builder) (p : Place) → HasOpValue b op xs p → (d : Place) → HasOpValue b op (at_places d places args) p
+    args_valued b p h d = subst (λ (ps : List Place). HasOpValue b op ps p) (are d) h
+
+  pub arg_sort : (i : ℕ) (x : Place) → i < length args → IsArg i x → All IsSort (map place_sort places) → IsSort (place_sort x)
+  arg_sort i x l e all =
+      let k = get_or args i 0 in
+      let below : k < length (map place_sort places) = rw (length-map places place_sort) (arg_below i l) in
+      subst IsSort (get_or-map place_sort places k x (place_sort x) (arg_below i l) ∙ ap place_sort (sym e)) (All-get_or IsSort (map place_sort places) k (place_sort x) below all)
 
 -- ---- a node's value
 -- what a test of a lawful node says

@@ -1,5 +1,5 @@
 //! The literals of an operator's value.
-ghost use Rattle.std.specs.Prelude.{◌≡◌, ◌≢◌, [], ◌∷◌, length, IsSome, IfOk, OnOk};
+ghost use Rattle.std.specs.Prelude.{◌≡◌, ◌≢◌, [], ◌∷◌, length, Some, IsSome, IfOk, OnOk};
 ghost use Rattle.data_value.specs.declared.Op.TheVariants.{Concat};
 ghost use Rattle.data_value.specs.declared.DataSort.TheVariants.{Bits as BitsSort, Bool as BoolSort};
 ghost use Rattle.data_value.specs.Sorts.{IsWidth, IsSort, op_sort};
@@ -9,7 +9,7 @@ ghost use Rattle.bv_blast.specs.declared.place.Place.TheVariants.{Flag, Word};
 ghost use Rattle.bv_blast.specs.Places.{place_sort, HasPlace, HasOpValue};
 
 use crate::place::Place;
-use bit_gates::{Builder, NoMemory};
+use bit_gates::{Builder, NoMemory, Word};
 use data_value::Op;
 use refute_check::Lit;
 
@@ -126,22 +126,56 @@ fn on_words(b: &mut Builder, op: Op, x: &[Lit], y: &[Lit]) -> Result<Place, NoMe
     ensures made { IfOk result (HasOpValue b.new op (Word x.now ∷ Word y.now ∷ [])) }
 {
     match op {
-        Op::Eq => Ok(Place::Flag(bit_gates::equal(b, x, y)?)),
-        Op::Add => Ok(Place::Word(bit_gates::add(b, x, y)?)),
-        Op::Sub => Ok(Place::Word(bit_gates::subtract(b, x, y)?)),
-        Op::Mul => Ok(Place::Word(bit_gates::multiply(b, x, y)?)),
-        Op::Udiv => Ok(Place::Word(bit_gates::divide(b, x, y)?.quotient)),
-        Op::Urem => Ok(Place::Word(bit_gates::divide(b, x, y)?.remainder)),
-        Op::BvAnd => Ok(Place::Word(bit_gates::and_words(b, x, y)?)),
-        Op::BvOr => Ok(Place::Word(bit_gates::or_words(b, x, y)?)),
-        Op::BvXor => Ok(Place::Word(bit_gates::xor_words(b, x, y)?)),
-        Op::Shl => Ok(Place::Word(bit_gates::shift_left(b, x, y)?)),
-        Op::Lshr => Ok(Place::Word(bit_gates::shift_right(b, x, y)?)),
-        Op::Ashr => Ok(Place::Word(bit_gates::shift_signed(b, x, y)?)),
-        Op::Ult => Ok(Place::Flag(bit_gates::below(b, x, y)?)),
-        Op::Ule => Ok(Place::Flag(bit_gates::below_or_equal(b, x, y)?)),
-        Op::Slt => Ok(Place::Flag(bit_gates::signed_below(b, x, y)?)),
-        Op::Sle => Ok(Place::Flag(bit_gates::signed_below_or_equal(b, x, y)?)),
+        Op::Eq | Op::Ult | Op::Ule | Op::Slt | Op::Sle => {
+            Ok(Place::Flag(comparison(b, op, x, y)?))
+        }
+        _ => Ok(Place::Word(word_of_words(b, op, x, y)?)),
+    }
+}
+
+/// The literal of a comparison of two words of one width.
+fn comparison(b: &mut Builder, op: Op, x: &[Lit], y: &[Lit]) -> Result<Lit, NoMemory>
+    requires sorted { op_sort op (BitsSort (length x.now) ∷ BitsSort (length y.now) ∷ []) ≡ Some BoolSort }
+    requires x { HasLits b.old x.now }
+    requires y { HasLits b.old y.now }
+    requires width { IsWidth (length x.now) }
+    requires same { length y.now ≡ length x.now }
+    ensures extends { OnOk result (Grows b.old b.new) }
+    ensures made { IfOk result (λ z. HasOpValue b.new op (Word x.now ∷ Word y.now ∷ []) (Flag z)) }
+{
+    match op {
+        Op::Eq => bit_gates::equal(b, x, y),
+        Op::Ult => bit_gates::below(b, x, y),
+        Op::Ule => bit_gates::below_or_equal(b, x, y),
+        Op::Slt => bit_gates::signed_below(b, x, y),
+        Op::Sle => bit_gates::signed_below_or_equal(b, x, y),
+        _ => unreachable!(),
+    }
+}
+
+/// The literals of the word that the operator makes of two words of one width, and that is of their width.
+fn word_of_words(b: &mut Builder, op: Op, x: &[Lit], y: &[Lit]) -> Result<Word, NoMemory>
+    requires sorted { op_sort op (BitsSort (length x.now) ∷ BitsSort (length y.now) ∷ []) ≡ Some (BitsSort (length x.now)) }
+    requires x { HasLits b.old x.now }
+    requires y { HasLits b.old y.now }
+    requires width { IsWidth (length x.now) }
+    requires same { length y.now ≡ length x.now }
+    requires other { op ≢ Concat }
+    ensures extends { OnOk result (Grows b.old b.new) }
+    ensures made { IfOk result (λ zs. HasOpValue b.new op (Word x.now ∷ Word y.now ∷ []) (Word zs)) }
+{
+    match op {
+        Op::Add => bit_gates::add(b, x, y),
+        Op::Sub => bit_gates::subtract(b, x, y),
+        Op::Mul => bit_gates::multiply(b, x, y),
+        Op::Udiv => Ok(bit_gates::divide(b, x, y)?.quotient),
+        Op::Urem => Ok(bit_gates::divide(b, x, y)?.remainder),
+        Op::BvAnd => bit_gates::and_words(b, x, y),
+        Op::BvOr => bit_gates::or_words(b, x, y),
+        Op::BvXor => bit_gates::xor_words(b, x, y),
+        Op::Shl => bit_gates::shift_left(b, x, y),
+        Op::Lshr => bit_gates::shift_right(b, x, y),
+        Op::Ashr => bit_gates::shift_signed(b, x, y),
         _ => unreachable!(),
     }
 }

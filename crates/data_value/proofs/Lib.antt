@@ -1,11 +1,13 @@
 pub mod AlikeLemmas
 pub mod FlatLemmas
+pub mod Folding
 pub mod GroundLemmas
 pub mod Grown
 pub mod KeyLemmas
 pub mod MapLemmas
 pub mod NodeLemmas
 pub mod OpLemmas
+pub mod SortLemmas
 pub mod TestLemmas
 pub mod TrialLemmas
 pub mod TruthLemmas

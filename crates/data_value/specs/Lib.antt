@@ -14,4 +14,5 @@ pub mod GroundLawful
 pub mod MapKeys
 pub mod NodeLaws
 pub mod Truth
+pub mod Known
 pub mod Alike

@@ -32,6 +32,11 @@ same_sort (BitsSort v) (BitsSort w) = v == w
 same_sort (MapSort j v) (MapSort k w) = (j == k) && (v == w)
 same_sort _ _ = false
 
+-- whether there is a sort, and it is this one
+abbrev pub is_sort_of : Option DataSort → DataSort → Bool
+is_sort_of None s = false
+is_sort_of (Some r) s = same_sort r s
+
 -- Whether a sort is that of a truth value or of a word.
 abbrev pub is_scalar_sort : DataSort → Bool
 is_scalar_sort (MapSort k v) = false

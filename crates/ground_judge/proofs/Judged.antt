@@ -19,7 +19,9 @@ use Rattle.ground_judge.specs.declared.kind.FailedTest.{FailedTest}
 use Rattle.ground_judge.specs.declared.kind.FailedTest.TheVariants.{Void, Outside, Long, Halted}
 use Rattle.ground_judge.specs.Ground.{IsOnlyPair}
 use Rattle.ground_judge.specs.Kinds.{test_of}
-use Rattle.ground_judge.specs.Found.{Keeps, NoEscape, FirstEscape, AreRightsMatched, IsRightUnmatched, AreLeftsMatched, IsLeftUnmatched}
+use Rattle.ground_judge.specs.declared.finding.Finding.{Finding}
+use Rattle.ground_judge.specs.declared.finding.Finding.TheVariants.{Ungrounded, Grounded}
+use Rattle.ground_judge.specs.Found.{Keeps, NoEscape, FirstEscape, AreRightsMatched, IsRightUnmatched, AreLeftsMatched, IsLeftUnmatched, Finds, TellsRuns}
 use Rattle.ground_judge.proofs.Keeping.{some_long, some_halted, no_long, no_halted, are_met, no_runs}
 use Rattle.ground_judge.proofs.Tests.{some_pair, each_pair, only_state, first_long_left, first_long_right, first_halted_left, first_halted_right}
 
@@ -31,9 +33,19 @@ module _ (q : Problem) (side : Side) (s : Tree) (runs : List StartedRun) (exactl
   ended : (t : Tree) → SucceedsOf q side s t → (r : StartedRun) × Contains runs r × (end_of r ≡ t)
   ended t h = ((s, h.0), exactly.complete (s, h.0) (refl, h.1), h.2)
 
+-- what follows from a test, and from its opposite
+both : {A B C D : Type 0} (b : Bool) → (A → C) → (B → D) → MatchBool b A B → MatchBool b C D
+both true f g h = f h
+both false f g h = g h
+
+-- the same where the opposite is told
+pub opposite : (A B : Type 0) (b : Bool) → MatchBool b A B → MatchBool (not b) B A
+opposite A B true h = h
+opposite A B false h = h
+
 module _ (q : Problem) (n : ℕ) (p : Point) (a b : Tree) (only : IsOnlyPair q p a b) where
   module _ (lefts rights : List StartedRun) (kl : Keeps (StepsOf q left) (InCutOf q left) n a lefts) (kr : Keeps (StepsOf q right) (InCutOf q right) n b rights) where
-    pub well : IsWellGroundedAt q n p
+    well : IsWellGroundedAt q n p
     well = record {
       held = ([], only.relates.holds);
       sides = λ side.
@@ -51,7 +63,7 @@ module _ (q : Problem) (n : ℕ) (p : Point) (a b : Tree) (only : IsOnlyPair q p
         meets left = kl.1.meets
         meets right = kr.1.meets
 
-    pub rights_match : AreRightsMatched q lefts rights → RightMatches q p
+    rights_match : AreRightsMatched q lefts rights → RightMatches q p
     rights_match m =
         each_pair q n p a b only (λ c d. (b' : Tree) → SucceedsOf q right d b' → (a' : Tree) × SucceedsOf q left c a' × Related q a' b') (λ b' h. partner b' (ended q right b rights kr.1.exactly b' h))
       where
@@ -63,7 +75,7 @@ module _ (q : Problem) (n : ℕ) (p : Point) (a b : Tree) (only : IsOnlyPair q p
               subst (Related q (end_of l.1)) r.2 l.4,
             )
 
-    pub lefts_match : AreLeftsMatched q lefts rights → LeftMatches q p
+    lefts_match : AreLeftsMatched q lefts rights → LeftMatches q p
     lefts_match m =
         each_pair q n p a b only (λ c d. (a' : Tree) → SucceedsOf q left c a' → (b' : Tree) × SucceedsOf q right d b' × Related q a' b') (λ a' h. partner a' (ended q left a lefts kl.1.exactly a' h))
       where
@@ -75,16 +87,16 @@ module _ (q : Problem) (n : ℕ) (p : Point) (a b : Tree) (only : IsOnlyPair q p
               subst (λ x. Related q x (end_of r.1)) l.2 r.4,
             )
 
-    pub right_fails : IsRightUnmatched q lefts rights → RightFails q p
-    right_fails u =
+    right_unmatched : IsRightUnmatched q lefts rights → RightFails q p
+    right_unmatched u =
         some_pair q n p a b only (λ c d. (b' : Tree) × SucceedsOf q right d b' × ((a' : Tree) → SucceedsOf q left c a' → ¬ Related q a' b')) (
           end_of u.1,
           All-contains (λ x. SucceedsOf q right b (end_of x)) rights u.1 (ends q right b rights kr.1.exactly) (u.0, u.2, u.3),
           λ a' h. let l = ended q left a lefts kl.1.exactly a' h in subst (λ x. ¬ Related q x (end_of u.1)) l.2 (All-contains (λ y. ¬ Related q (end_of y) (end_of u.1)) lefts l.0 u.4 l.1),
         )
 
-    pub left_fails : IsLeftUnmatched q lefts rights → LeftFails q p
-    left_fails u =
+    left_unmatched : IsLeftUnmatched q lefts rights → LeftFails q p
+    left_unmatched u =
         some_pair q n p a b only (λ c d. (a' : Tree) × SucceedsOf q left c a' × ((b' : Tree) → SucceedsOf q right d b' → ¬ Related q a' b')) (
           end_of u.1,
           All-contains (λ x. SucceedsOf q left a (end_of x)) lefts u.1 (ends q left a lefts kl.1.exactly) (u.0, u.2, u.3),
@@ -108,7 +120,7 @@ module _ (q : Problem) (n : ℕ) (p : Point) (a b : Tree) (only : IsOnlyPair q p
     halted_none_right e = subst (λ x. AreExactly (HaltedFrom q.right q.right_program q.points.right_cuts b n) (runs_of x)) e hr
 
     -- the first of the lists that isn't empty tells the first test that holds
-    pub escapes : (t : FailedTest) → FirstEscape l r t → FirstTest q n (test_of t) p
+    escapes : (t : FailedTest) → FirstEscape l r t → FirstTest q n (test_of t) p
     escapes Void h = absurd h
     escapes (Outside s) h = absurd h
     escapes (Long side.Left) h = first_long_left q n p a b only il ir (some_long q.left q.left_program q.points.left_cuts a n (runs_of l.long) (λ e. h (no_runs l.long e)) ll)
@@ -130,13 +142,19 @@ module _ (q : Problem) (n : ℕ) (p : Point) (a b : Tree) (only : IsOnlyPair q p
 
     -- without long and halted runs, the met runs are all that there are
     module _ (none : NoEscape l r) where
-      pub left_keeps : AreExactly (MetFrom q.left q.left_program q.points.left_cuts a n) (runs_of l.met) → Keeps (StepsOf q left) (InCutOf q left) n a (runs_of l.met)
+      left_keeps : AreExactly (MetFrom q.left q.left_program q.points.left_cuts a n) (runs_of l.met) → Keeps (StepsOf q left) (InCutOf q left) n a (runs_of l.met)
       left_keeps m = (il, are_met q.left q.left_program q.points.left_cuts a n (runs_of l.met) m (long_none none.left_long) (halted_none none.left_halted))
 
-      pub right_keeps : AreExactly (MetFrom q.right q.right_program q.points.right_cuts b n) (runs_of r.met) → Keeps (StepsOf q right) (InCutOf q right) n b (runs_of r.met)
+      right_keeps : AreExactly (MetFrom q.right q.right_program q.points.right_cuts b n) (runs_of r.met) → Keeps (StepsOf q right) (InCutOf q right) n b (runs_of r.met)
       right_keeps m = (ir, are_met q.right q.right_program q.points.right_cuts b n (runs_of r.met) m (long_none_right none.right_long) (halted_none_right none.right_halted))
 
--- what follows from a test and from its opposite follows from the opposite test
-pub opposite : {A B C D : Type 0} (b c : Bool) → c ≡ not b → (A → C) → (B → D) → MatchBool b A B → MatchBool c D C
-opposite {C = C} {D = D} true c e f g h = subst (λ x. MatchBool x D C) (sym e) (f h)
-opposite {C = C} {D = D} false c e f g h = subst (λ x. MatchBool x D C) (sym e) (g h)
+    -- what the runs tell of the pair is found of the point
+    pub told : (found : Finding) → AreExactly (MetFrom q.left q.left_program q.points.left_cuts a n) (runs_of l.met) → AreExactly (MetFrom q.right q.right_program q.points.right_cuts b n) (runs_of r.met) → TellsRuns q l r found → Finds q n p found
+    told (Ungrounded t) ml mr h = escapes t h
+    told (Grounded right_fails left_fails) ml mr h =
+        let kl = left_keeps h.0 ml in
+        let kr = right_keeps h.0 mr in (
+          well (runs_of l.met) (runs_of r.met) kl kr,
+          both right_fails (right_unmatched (runs_of l.met) (runs_of r.met) kl kr) (rights_match (runs_of l.met) (runs_of r.met) kl kr) h.1,
+          both left_fails (left_unmatched (runs_of l.met) (runs_of r.met) kl kr) (lefts_match (runs_of l.met) (runs_of r.met) kl kr) h.2,
+        )

@@ -60,6 +60,6 @@ module _ {S : Type 0} (sys : System) (tables : Tables) (cuts : List (Cut S)) (s 
           exactly_same (MetFrom sys tables cuts s n) (From s (IsMet Steps In s)) met (λ p. (λ x. (x.0, x.1.0), λ x. (x.0, (x.1, met_short Steps In s n p.1 (no_long l) x.1)))) m
 
 -- the met runs from a state end in states
-pub met_states : {S : Type 0} (sys : System) (tables : Tables) (cuts : List (Cut S)) (s : Tree) (n : ℕ) (met : List StartedRun) → IsSemantics sys → IsState sys s → AreMet (StepsBy sys tables) (InCut sys.cons cuts) n s met → All (EndsInState sys) met
-met_states sys tables cuts s n met lawful state k =
-    All-weaker (From s (IsMet (StepsBy sys tables) (InCut sys.cons cuts) s)) (EndsInState sys) (λ p h. subst (λ t. IsState sys (reached t p.1)) (sym h.0) (run_state sys tables lawful s p.1 state h.1.runs)) met k.exactly.sound
+pub met_states : {S : Type 0} (sys : System) (tables : Tables) (cuts : List (Cut S)) (s : Tree) (n : ℕ) (met : List StartedRun) → IsSemantics sys → IsState sys s → AreExactly (MetFrom sys tables cuts s n) met → All (EndsInState sys) met
+met_states sys tables cuts s n met lawful state exactly =
+    All-weaker (MetFrom sys tables cuts s n) (EndsInState sys) (λ p h. subst (λ t. IsState sys (reached t p.1)) (sym h.0) (run_state sys tables lawful s p.1 state h.1.0.runs)) met exactly.sound

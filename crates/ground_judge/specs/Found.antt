@@ -10,13 +10,14 @@ use Rattle.sort_term.specs.Relation.{Related, RightFails, LeftFails}
 use Rattle.sort_term.specs.Meeting.{AlwaysMeets}
 use Rattle.sort_term.specs.Simulation.{IsWellGroundedAt, RightMatches, LeftMatches}
 use Rattle.sort_term.specs.Verdict.{FirstTest}
-use Rattle.ground_step.specs.Reach.{StartedRun, From, AreExactly, end_of}
+use Rattle.ground_step.specs.Reach.{StartedRun, From, AreExactly, end_of, runs_of}
 use Rattle.ground_step.specs.declared.reach.GroundReach.{GroundReach}
 use Rattle.ground_step.specs.declared.verdict.SideName.TheVariants as side
 use Rattle.ground_judge.specs.declared.kind.FailedTest.{FailedTest}
 use Rattle.ground_judge.specs.declared.kind.FailedTest.TheVariants.{Long, Halted}
 use Rattle.ground_judge.specs.declared.finding.Finding.{Finding}
 use Rattle.ground_judge.specs.declared.finding.Finding.TheVariants.{Ungrounded, Grounded}
+use Rattle.ground_judge.specs.Ground.{IsOnlyPair}
 use Rattle.ground_judge.specs.Kinds.{test_of}
 
 -- each run from s that makes a step meets the cut within n steps, and these are all met runs from s
@@ -73,3 +74,13 @@ abbrev pub Finds : Problem → ℕ → Point → Finding → Type 0
 Finds q n p (Ungrounded t) = FirstTest q n (test_of t) p
 Finds q n p (Grounded right_fails left_fails) =
     IsWellGroundedAt q n p × MatchBool right_fails (RightFails q p) (RightMatches q p) × MatchBool left_fails (LeftFails q p) (LeftMatches q p)
+
+-- the same of each point whose only related pair is (a, b)
+abbrev pub FindsOf : Problem → ℕ → Tree → Tree → Finding → Type 0
+FindsOf q n a b found = (p : Point) → IsOnlyPair q p a b → Finds q n p found
+
+-- what the runs from both states tell is so: the first test that a long or a halted run tells; or there is no such run, and on each side some met run has no partner or all have one
+abbrev pub TellsRuns : Problem → GroundReach Left → GroundReach Right → Finding → Type 0
+TellsRuns q l r (Ungrounded t) = FirstEscape l r t
+TellsRuns q l r (Grounded right_fails left_fails) =
+    NoEscape l r × MatchBool right_fails (IsRightUnmatched q (runs_of l.met) (runs_of r.met)) (AreRightsMatched q (runs_of l.met) (runs_of r.met)) × MatchBool left_fails (IsLeftUnmatched q (runs_of l.met) (runs_of r.met)) (AreLeftsMatched q (runs_of l.met) (runs_of r.met))

@@ -1,8 +1,10 @@
 // What the runs from the two states of a point tell of it.
-ghost use Rattle.std.specs.Prelude.{◌≤◌, IfOk, MatchOption};
+ghost use Rattle.std.specs.Prelude.{◌≤◌, All, IfOk, MatchOption};
 ghost use Rattle.sort_term.specs.Problems.{IsPointOf};
+ghost use Rattle.sort_term.specs.Step.{IsState};
+ghost use Rattle.ground_step.specs.Reach.{EndsInState, runs_of};
 ghost use Rattle.ground_judge.specs.Ground.{IsGroundPoint};
-ghost use Rattle.ground_judge.specs.Found.{Finds, FirstEscape, NoEscape};
+ghost use Rattle.ground_judge.specs.Found.{Finds, FindsOf, FirstEscape, NoEscape, TellsRuns};
 
 use crate::ground::related_pair;
 use crate::kind::FailedTest;
@@ -10,7 +12,7 @@ use crate::left_partners::are_lefts_matched;
 use crate::right_partners::are_rights_matched;
 use ground_step::{GroundReach, SideName, cut_successors, in_cut};
 use no_memory::NoMemory;
-use sort_term::{Left, Point, Problem, Right};
+use sort_term::{Left, Point, Problem, Right, State};
 use std::alloc::Global;
 
 /// What a point is found to be.
@@ -35,10 +37,28 @@ pub fn examine(
     ensures { IfOk result (Finds problem.now steps point.now) }
 {
     let (left, right) = related_pair(alloc, problem, point)?;
-    if !in_cut(alloc, &problem.left, &problem.points.left_cuts, &left)? {
+    let found = examine_pair(alloc, problem, &left, &right, steps);
+    drop((left, right));
+    found
+}
+
+// What each point is found to be whose only related pair these states are.
+fn examine_pair(
+    alloc: Global,
+    problem: &Problem,
+    left: &State<Left>,
+    right: &State<Right>,
+    steps: u32,
+) -> Result<Finding, NoMemory>
+    requires left { IsState problem.now.left left.now.term }
+    requires right { IsState problem.now.right right.now.term }
+    requires steps { 1 ≤ steps }
+    ensures { IfOk result (FindsOf problem.now steps left.now.term right.now.term) }
+{
+    if !in_cut(alloc, &problem.left, &problem.points.left_cuts, left)? {
         return Ok(Finding::Ungrounded(FailedTest::Outside(SideName::Left)));
     }
-    if !in_cut(alloc, &problem.right, &problem.points.right_cuts, &right)? {
+    if !in_cut(alloc, &problem.right, &problem.points.right_cuts, right)? {
         return Ok(Finding::Ungrounded(FailedTest::Outside(SideName::Right)));
     }
     let lefts = cut_successors(
@@ -46,18 +66,41 @@ pub fn examine(
         &problem.left,
         &problem.left_program,
         &problem.points.left_cuts,
-        &left,
+        left,
         steps,
     )?;
-    let rights = cut_successors(
+    match cut_successors(
         alloc,
         &problem.right,
         &problem.right_program,
         &problem.points.right_cuts,
-        &right,
+        right,
         steps,
-    )?;
-    if let Some(test) = first_escape(&lefts, &rights) {
+    ) {
+        Ok(rights) => {
+            let found = examine_runs(alloc, problem, &lefts, &rights);
+            drop((lefts, rights));
+            found
+        }
+        Err(error) => {
+            drop(lefts);
+            Err(error)
+        }
+    }
+}
+
+// What the runs from both states tell.
+fn examine_runs(
+    alloc: Global,
+    problem: &Problem,
+    lefts: &GroundReach<Left>,
+    rights: &GroundReach<Right>,
+) -> Result<Finding, NoMemory>
+    requires lefts { All (EndsInState problem.now.left) (runs_of lefts.now.met) }
+    requires rights { All (EndsInState problem.now.right) (runs_of rights.now.met) }
+    ensures { IfOk result (TellsRuns problem.now lefts.now rights.now) }
+{
+    if let Some(test) = first_escape(lefts, rights) {
         return Ok(Finding::Ungrounded(test));
     }
     let rights_matched = are_rights_matched(

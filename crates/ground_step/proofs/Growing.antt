@@ -168,14 +168,7 @@ module _ (sys : System) (tables : Tables) (p : StartedRun) (steps : List (ℕ ×
       from q (inl y) = ((rests none q).1 (inl y.0), y.1)
       from q (inr e) = ((rests none q).1 (inr e.0), e.1)
 
--- a run with one more step, as the code makes it
-pub longer_is : {S : Type 0} (run longer : Run S) (steps : List (RunStep S)) (copy x : RunStep S) → run_of longer ≡ run_of run → step_of copy ≡ step_of x → steps ≡ longer.steps ++ copy ∷ [] → ◌≡◌ {A = StartedRun} (longer.start.term, steps_of steps) (run.start.term, steps_of run.steps ++ step_of x ∷ [])
-longer_is run longer steps copy x e f g =
-    let start : longer.start.term ≡ run.start.term = ap (λ (p : StartedRun). p.0) e in
-    let before : steps_of longer.steps ≡ steps_of run.steps = ap (λ (p : StartedRun). p.1) e in
-    let more : steps_of steps ≡ steps_of run.steps ++ step_of x ∷ [] = ap (λ l. steps_of l) g ∙ map-append step_of longer.steps (copy ∷ []) ∙ ap (λ l. l ++ step_of copy ∷ []) before ∙ ap (λ y. steps_of run.steps ++ y ∷ []) f in
-    cc
-
+-- a run with each of some steps, and with one more
 pub with_more : {S : Type 0} (p : StartedRun) (xs : List (RunStep S)) (x : RunStep S) → with_each p (steps_of (xs ++ x ∷ [])) ≡ with_each p (steps_of xs) ++ (p.0, p.1 ++ step_of x ∷ []) ∷ []
 with_more p xs x = ap (with_each p) (map-append step_of xs (x ∷ [])) ∙ map-append (λ (y : ℕ × Tree). (p.0, p.1 ++ y ∷ [])) (steps_of xs) (step_of x ∷ [])
 

@@ -70,7 +70,10 @@ pub record AddsExactly {X : Type 0} (P : X → Type 0) (old new : List X) : Type
 abbrev pub AddsRuns : {S : Type 0} → (StartedRun → Type 0) → List (Run S) → List (Run S) → Type 0
 AddsRuns P old new = AddsExactly P (runs_of old) (runs_of new)
 
--- p with each of these steps behind it
+-- p with the step x behind it, and with each of these steps
+abbrev pub longer_run : StartedRun → ℕ × Tree → StartedRun
+longer_run p x = (p.0, p.1 ++ x ∷ [])
+
 abbrev pub with_each : StartedRun → List (ℕ × Tree) → List StartedRun
 with_each p steps = map (λ x. (p.0, p.1 ++ x ∷ [])) steps
 

@@ -1,12 +1,12 @@
 // Runs up to the cut.
-ghost use Rattle.std.specs.Prelude.{◌≡◌, ◌≢◌, ◌≤◌, [], All, IfOk};
+ghost use Rattle.std.specs.Prelude.{◌≡◌, ◌≢◌, ◌≤◌, [], ◌∷◌, ◌++◌, All, IfOk};
 ghost use Rattle.sort_term.specs.Step.{IsState};
 ghost use Rattle.sort_term.specs.Rules.{IsSemantics};
 ghost use Rattle.sort_term.specs.Problems.{AreCuts, IsProgram};
-ghost use Rattle.ground_step.specs.Steps.{steps_of};
-ghost use Rattle.ground_step.specs.Reach.{AddsRuns, AreRuns, EndsInCut, EndsInState, EndsOutside, HaltedFrom, LongFrom, MeetsNext, MetFrom, NoneTwice, StaysOutside, StopsIn, StopsMovedIn, run_of, runs_of, with_each};
+ghost use Rattle.ground_step.specs.Steps.{step_of, steps_of};
+ghost use Rattle.ground_step.specs.Reach.{AddsRuns, AreRuns, EndsInCut, EndsInState, EndsOutside, HaltedFrom, LongFrom, MeetsNext, MetFrom, NoneTwice, StaysOutside, StopsIn, StopsMovedIn, longer_run, run_of, runs_of, with_each};
 
-use crate::run::{Run, RunSteps, Runs};
+use crate::run::{Run, RunStep, RunSteps, Runs};
 use crate::steps::{in_cut, successors};
 use no_memory::NoMemory;
 use sort_term::{Cuts, Program, Semantics, Side, State};
@@ -44,10 +44,10 @@ pub fn cut_successors<S: Side>(
 {
     // Reading its rules shows that the semantics has passed its checks.
     let _rules = semantics.rules();
-    let mut met = Items::new(alloc);
-    let mut halted = Items::new(alloc);
     let mut outside = Vec::new(alloc);
     outside.push(Run::at(alloc, state)?)?;
+    let mut met = Items::new(alloc);
+    let mut halted = Items::new(alloc);
     for _level in 0..steps {
         outside = next_level(
             alloc,
@@ -138,20 +138,79 @@ fn with_each<S: Side>(
 ) -> Result<Vec<Run<S>>, NoMemory>
     ensures { IfOk result (λ runs. runs_of runs.items ≡ with_each (run_of run) (steps_of steps)) }
 {
-    let mut run = run;
     let mut steps = steps;
-    let mut runs = Vec::new(alloc);
     let Some(last) = steps.pop() else {
-        return Ok(runs);
+        drop((run, steps));
+        return Ok(Vec::new(alloc));
     };
-    for step in steps.as_slice() {
-        let mut longer = run.copy(alloc)?;
-        longer.steps.push(step.copy(alloc)?)?;
-        runs.push(longer)?;
+    let copies = copies_with_each(alloc, &run, steps.as_slice());
+    drop(steps);
+    match copies {
+        Ok(runs) => with_last(runs, run, last),
+        Err(error) => {
+            drop((run, last));
+            Err(error)
+        }
     }
-    run.steps.push(last)?;
-    runs.push(run)?;
+}
+
+// A copy of the run for each of the steps, with the step behind it.
+fn copies_with_each<S: Side>(
+    alloc: Global,
+    run: &Run<S>,
+    steps: &[RunStep<S>],
+) -> Result<Vec<Run<S>>, NoMemory>
+    ensures { IfOk result (λ runs. runs_of runs.items ≡ with_each (run_of run.now) (steps_of steps.now)) }
+{
+    let mut runs = Vec::new(alloc);
+    for step in steps {
+        runs.push(copy_with(alloc, run, step)?)?;
+    }
     Ok(runs)
+}
+
+// A copy of the run with the step behind it.
+fn copy_with<S: Side>(alloc: Global, run: &Run<S>, step: &RunStep<S>) -> Result<Run<S>, NoMemory>
+    ensures { IfOk result (λ longer. run_of longer ≡ longer_run (run_of run.now) (step_of step.now)) }
+{
+    let copy = run.copy(alloc)?;
+    match step.copy(alloc) {
+        Ok(step) => longer(copy, step),
+        Err(error) => {
+            drop(copy);
+            Err(error)
+        }
+    }
+}
+
+// The runs, and the run with the step behind it as the last of them.
+fn with_last<S: Side>(
+    runs: Vec<Run<S>>,
+    run: Run<S>,
+    step: RunStep<S>,
+) -> Result<Vec<Run<S>>, NoMemory>
+    ensures { IfOk result (λ all. runs_of all.items ≡ runs_of runs.items ++ longer_run (run_of run) (step_of step) ∷ []) }
+{
+    let mut runs = runs;
+    match longer(run, step) {
+        Ok(run) => {
+            runs.push(run)?;
+            Ok(runs)
+        }
+        Err(error) => {
+            drop(runs);
+            Err(error)
+        }
+    }
+}
+
+// The run with the step behind it.
+fn longer<S: Side>(run: Run<S>, step: RunStep<S>) -> Result<Run<S>, NoMemory>
+    ensures { IfOk result (λ longer. run_of longer ≡ longer_run (run_of run) (step_of step)) }
+{
+    let mut run = run;
+    run.steps.push(step)?;
+    Ok(run)
 }
 
 // Notes the runs whose last states are in the cut as met, the others as still outside.

@@ -27,6 +27,9 @@ impl Calls for Layers {
         if let Some(answer) = value_examples::answer(alloc, name, arguments)? {
             return Ok(answer);
         }
+        if let Some(answer) = node_examples::answer(alloc, name, arguments)? {
+            return Ok(answer);
+        }
         if let Some(answer) = machine_examples::answer(alloc, texts, name, arguments)? {
             return Ok(answer);
         }

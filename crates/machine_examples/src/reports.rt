@@ -53,11 +53,25 @@ fn verdict_of(
         [kind, point] if is_word(kind, b"void") => Ok(Verdict::Void {
             point: small(point)?,
         }),
-        [kind, parts @ ..] => {
-            let failure = failure(alloc, texts, problem, parts)?;
-            with_kind(word(kind)?.as_slice(), failure)
-        }
+        [kind, parts @ ..] => failed_verdict(alloc, texts, problem, kind, parts),
         _ => Err(Failed::NoCall),
+    }
+}
+
+fn failed_verdict(
+    alloc: Global,
+    texts: &Texts,
+    problem: &Problem,
+    kind: &Form,
+    parts: &[Form],
+) -> Result<Verdict, Failed> {
+    let failure = failure(alloc, texts, problem, parts)?;
+    match word(kind) {
+        Ok(kind) => with_kind(kind.as_slice(), failure),
+        Err(failed) => {
+            drop(failure);
+            Err(failed)
+        }
     }
 }
 
@@ -101,8 +115,7 @@ fn failure(
         return Err(Failed::NoCall);
     };
     let (point, side) = (small(point)?, side_name(side)?);
-    let rules = rule_ids(alloc, list(rules)?)?;
-    let values = values_of(alloc, texts, problem, values)?;
+    let (rules, values) = rules_and_values(alloc, texts, problem, rules, values)?;
     match states(alloc, texts, problem, left, right, reached_side, reached) {
         Ok((left, right, reached)) => Ok(Failure {
             point,
@@ -136,6 +149,23 @@ fn rule_ids(alloc: Global, forms: &[Form]) -> Result<RuleIds, Failed> {
         rules.push(RuleId(small(form)?))?;
     }
     Ok(rules)
+}
+
+fn rules_and_values(
+    alloc: Global,
+    texts: &Texts,
+    problem: &Problem,
+    rules: &Form,
+    values: &Form,
+) -> Result<(RuleIds, Valuation), Failed> {
+    let rules = rule_ids(alloc, list(rules)?)?;
+    match values_of(alloc, texts, problem, values) {
+        Ok(values) => Ok((rules, values)),
+        Err(failed) => {
+            drop(rules);
+            Err(failed)
+        }
+    }
 }
 
 // The plain arguments of the constructor of a left state.

@@ -42,12 +42,18 @@ impl<'a, S: Side> ProgramDraft<'a, S> {
     pub fn new(alloc: Global, semantics: &'a Semantics<S>) -> Result<ProgramDraft<'a, S>, NoMemory>
         ensures { IfOk result (λ d. d ≡ no_rows semantics.now) }
     {
-        let tables = semantics.tables().as_slice();
-        Ok(ProgramDraft {
-            reader: GroundReader::new(alloc, semantics)?,
-            row_lists: no_row_lists(alloc, tables)?,
-            key_tables: no_key_tables(alloc, tables)?,
-        })
+        let reader = GroundReader::new(alloc, semantics)?;
+        match no_rows(alloc, semantics.tables().as_slice()) {
+            Ok((row_lists, key_tables)) => Ok(ProgramDraft {
+                reader,
+                row_lists,
+                key_tables,
+            }),
+            Err(NoMemory) => {
+                drop(reader);
+                Err(NoMemory)
+            }
+        }
     }
 
     /// For each table its rows.
@@ -100,6 +106,36 @@ impl<'a, S: Side> ProgramDraft<'a, S> {
         self.key_tables[id.0].has(key)
     }
 
+    // The row that an item writes, with the number of its table.
+    fn row_of(
+        &self,
+        alloc: Global,
+        name: &Name,
+        key: u64,
+        raw: &RawTree,
+    ) -> Result<(TableId, Row), ItemError>
+        ensures within { IfOk result (λ made. made.0.0 < length self.now.semantics.tables) }
+        ensures new { IfOk result (λ made. list_any (λ r. r.key == made.1.key) (rows_at self.now made.0) ≡ false) }
+        ensures taken { IfOk result
+            (λ made. TakesItem program_loading self.now (Item.Row name.now key raw.now) (with_row self.now made.0 made.1)) }
+        ensures fault { IfErr result (IsItemError program_loading self.now (Item.Row name.now key raw.now)) }
+    {
+        let Some((id, table)) = self.named(name, raw) else {
+            return Err(ItemError::Fault(ItemFault::Name));
+        };
+        if !self.is_within(id, table, key, raw) {
+            return Err(ItemError::Fault(ItemFault::Limit));
+        }
+        let Some(term) = self.reader.sorted_term(alloc, table.sort, raw)? else {
+            return Err(ItemError::Fault(ItemFault::Sort));
+        };
+        if self.has_key(id, key) {
+            drop(term);
+            return Err(ItemError::Fault(ItemFault::DoubleKey));
+        }
+        Ok((id, Row { key, term }))
+    }
+
     // With the row that an item writes.
     fn add_row(
         self,
@@ -111,23 +147,13 @@ impl<'a, S: Side> ProgramDraft<'a, S> {
         ensures ok { IfOk result (TakesItem program_loading self.entry (Item.Row name.now key raw.now)) }
         ensures fault { IfErr result (IsItemError program_loading self.entry (Item.Row name.now key raw.now)) }
     {
-        let Some((id, table)) = self.named(name, raw) else {
-            drop(self);
-            return Err(ItemError::Fault(ItemFault::Name));
-        };
-        if !self.is_within(id, table, key, raw) {
-            drop(self);
-            return Err(ItemError::Fault(ItemFault::Limit));
+        match self.row_of(alloc, name, key, raw) {
+            Ok((id, row)) => Ok(self.with_row(id, row)?),
+            Err(error) => {
+                drop(self);
+                Err(error)
+            }
         }
-        let Some(term) = self.reader.sorted_term(alloc, table.sort, raw)? else {
-            drop(self);
-            return Err(ItemError::Fault(ItemFault::Sort));
-        };
-        if self.has_key(id, key) {
-            drop((self, term));
-            return Err(ItemError::Fault(ItemFault::DoubleKey));
-        }
-        Ok(self.with_row(id, Row { key, term })?)
     }
 
     // With one row more, whose key no earlier row has.
@@ -158,6 +184,21 @@ impl<'a, S: Side> Draft for ProgramDraft<'a, S> {
 
     fn lacking(&self) -> Option<LoadFault> {
         None
+    }
+}
+
+// For each table no rows and no keys.
+fn no_rows(alloc: Global, tables: &[Table]) -> Result<(Vec<Rows>, Vec<KeyTable>), NoMemory>
+    ensures rows { IfOk result (λ made. made.0.items ≡ map (λ _. []) tables.now) }
+    ensures keys { IfOk result (λ made. made.1.items ≡ map (λ _. []) tables.now) }
+{
+    let row_lists = no_row_lists(alloc, tables)?;
+    match no_key_tables(alloc, tables) {
+        Ok(key_tables) => Ok((row_lists, key_tables)),
+        Err(NoMemory) => {
+            drop(row_lists);
+            Err(NoMemory)
+        }
     }
 }
 

@@ -49,29 +49,40 @@ impl<'a, S: Side> StartDraft<'a, S> {
         tree
     }
 
+    // The tree that an item writes.
+    fn tree_of(&self, alloc: Global, raw: &RawTree) -> Result<Term<Value>, ItemError>
+        ensures taken { IfOk result
+            (λ tree. TakesItem start_loading self.now (Item.Start raw.now) (record { semantics = self.now.semantics; tree = Some tree })) }
+        ensures fault { IfErr result (IsItemError start_loading self.now (Item.Start raw.now)) }
+    {
+        if self.tree.is_some() {
+            return Err(ItemError::Fault(ItemFault::Shape));
+        }
+        if !self.reader.is_named(raw) {
+            return Err(ItemError::Fault(ItemFault::Name));
+        }
+        if !self.reader.is_within(raw) {
+            return Err(ItemError::Fault(ItemFault::Limit));
+        }
+        let sort = self.reader.state_sort();
+        match self.reader.sorted_term(alloc, sort, raw)? {
+            Some(tree) => Ok(tree),
+            None => Err(ItemError::Fault(ItemFault::Sort)),
+        }
+    }
+
     // With the tree that an item writes.
     fn add_tree(self, alloc: Global, raw: &RawTree) -> Result<StartDraft<'a, S>, ItemError>
         ensures ok { IfOk result (TakesItem start_loading self.entry (Item.Start raw.now)) }
         ensures fault { IfErr result (IsItemError start_loading self.entry (Item.Start raw.now)) }
     {
-        if self.tree.is_some() {
-            drop(self);
-            return Err(ItemError::Fault(ItemFault::Shape));
+        match self.tree_of(alloc, raw) {
+            Ok(tree) => Ok(self.with_tree(tree)),
+            Err(error) => {
+                drop(self);
+                Err(error)
+            }
         }
-        if !self.reader.is_named(raw) {
-            drop(self);
-            return Err(ItemError::Fault(ItemFault::Name));
-        }
-        if !self.reader.is_within(raw) {
-            drop(self);
-            return Err(ItemError::Fault(ItemFault::Limit));
-        }
-        let sort = self.reader.state_sort();
-        let Some(tree) = self.reader.sorted_term(alloc, sort, raw)? else {
-            drop(self);
-            return Err(ItemError::Fault(ItemFault::Sort));
-        };
-        Ok(self.with_tree(tree))
     }
 
     // With this tree.

@@ -1,13 +1,13 @@
 -- Which items a form is, as the reader of items takes it apart.
-use Rattle.std.proofs.Common.{◌≡◌, ◌≢◌, ℕ, List, [], ◌∷◌, ◌++◌, map, codes, All, Bool, refl, sym, ◌∙◌, ap, subst, ◌-◌, ◌≤◌, length, take, get_or}
+use Rattle.std.proofs.Common.{◌≡◌, ◌≢◌, ℕ, List, [], ◌∷◌, ◌++◌, map, codes, All, Bool, refl, sym, ◌∙◌, ap, subst, ◌-◌, ◌≤◌, length, take, drop, get_or, ◌<◌}
 use Rattle.std.proofs.lemmas.List.{map-append}
 use Rattle.sexp_text.specs.Printed.{without_spans}
 use Rattle.sexp_text.specs.declared.form.Form.{Form}
 use Rattle.rule_text.specs.Plain.{plain_word, plain_number, plain_list}
 use Rattle.rule_text.specs.Written.{written_sort, written_vars, written_tree, written_when, written_demand, side_word, front_word, item_parts, written_item}
 use Rattle.rule_text.specs.Lawful.{IsSort, AreVariables, IsPattern, IsExpression, IsGround, IsDemand, IsItemOf}
-use Rattle.rule_text.specs.Writes.{WritesTree, WritesOutcome, WritesParts, WritesItem}
-use Rattle.rule_text.specs.declared.tree.Place.TheVariants.{Ground}
+use Rattle.rule_text.specs.Writes.{WritesTree, WritesOpening, WritesGuarded, WritesRuleBody, WritesPointBody, WritesOutcome, WritesParts, WritesItem}
+use Rattle.rule_text.specs.declared.tree.Place.TheVariants.{Pattern, Ground}
 use Rattle.rule_text.specs.declared.item.RawSort.{RawSort}
 use Rattle.rule_text.specs.declared.item.RawVar.{RawVar}
 use Rattle.rule_text.specs.declared.item.RawTree.{RawTree}
@@ -17,7 +17,7 @@ use Rattle.rule_text.specs.declared.item.FileKind.TheVariants as file
 use Rattle.rule_text.specs.declared.item.Item.{Item}
 use Rattle.rule_text.specs.declared.item.Item.TheVariants.{Sort, Con, Table, Config, Rule, Row, Cut, Point, Start}
 use Rattle.rule_text.proofs.OperatorTable.{other_word}
-use Rattle.rule_text.proofs.Slices.{list_last, same_ends}
+use Rattle.rule_text.proofs.Slices.{list_3, list_3_up, list_4_up, list_last, same_ends}
 use Rattle.rule_text.proofs.Plain.{same_word, same_list}
 
 -- an item of any text but a start text is a word with its parts
@@ -113,6 +113,69 @@ cut_parts parts i w = absurd (other_word (front_word i) (codes "cut") refl w.wor
 pub point_parts : (parts : List Form) (i : Item) → WritesParts file.Points (codes "point") parts i → (name : List ℕ) × (vars : List RawVar) × (left : RawTree) × (right : RawTree) × (whens : List RawTree) × (parts ≡ plain_word name ∷ written_vars vars ∷ written_tree left ∷ written_tree right ∷ map written_when whens) × AreVariables vars × IsExpression left × IsExpression right × All IsExpression whens × (i ≡ Point name vars left right whens)
 point_parts parts (Point name vars left right whens) w = (name, vars, left, right, whens, w.spelled, w.lawful.0, w.lawful.1, w.lawful.2, w.lawful.3, refl)
 point_parts parts i w = absurd (other_word (front_word i) (codes "point") refl w.word)
+
+module _ (forms : List Form) (name vars head : Form) (low : 3 ≤ length forms) (p : name ≡ get_or forms 0 name) (q : vars ≡ get_or forms 1 vars) (r : head ≡ get_or forms 2 head) where
+  -- the parts of a rule, as its reader takes them
+  pub rule_split : (i : Item) → WritesParts file.Semantics (codes "rule") (map without_spans forms) i → (opening : List ℕ × List RawVar) × (body : RawTree × (List RawDemand × RawTree)) × WritesOpening (without_spans name) (without_spans vars) opening × WritesRuleBody (without_spans head) (map without_spans (take (length forms - 3) (drop 3 forms))) body
+  rule_split i w =
+      let all = ap (map without_spans) (list_3_up forms name vars head low p q r) in
+      let parts = rule_parts _ i w in
+      let whole = parts.5 in
+      ((parts.0, parts.1), (parts.2, (parts.3, parts.4)), record { named = cc; over = record { spelled = cc; lawful = parts.6 } }, record { head = record { spelled = cc; lawful = parts.7 }; end = record { spelled = cc; lawful_demands = parts.8; lawful_outcome = parts.9 } })
+
+  -- and a rule of these parts
+  pub rule_written : (opening : List ℕ × List RawVar) (body : RawTree × (List RawDemand × RawTree)) → WritesOpening (without_spans name) (without_spans vars) opening → WritesRuleBody (without_spans head) (map without_spans (take (length forms - 3) (drop 3 forms))) body → WritesParts file.Semantics (codes "rule") (map without_spans forms) (Rule opening.0 opening.1 body.0 body.1.0 body.1.1)
+  rule_written opening body v w =
+      let named = v.named in
+      let over = v.over.spelled in
+      let first = w.head.spelled in
+      let rest = w.end.spelled in
+      record { word = refl; spelled = ap (map without_spans) (list_3_up forms name vars head low p q r) ∙ cc; lawful = (v.over.lawful, w.head.lawful, w.end.lawful_demands, w.end.lawful_outcome) }
+
+-- the parts of a row, as its reader takes them
+pub row_split : (forms : List Form) (table key term : Form) (i : Item) → 3 ≤ length forms → length forms < 4 → table ≡ get_or forms 0 table → key ≡ get_or forms 1 key → term ≡ get_or forms 2 term → WritesParts file.Program (codes "row") (map without_spans forms) i → (name : List ℕ) × (n : ℕ) × (tree : RawTree) × (without_spans table ≡ plain_word name) × (without_spans key ≡ plain_number n) × WritesTree Ground (without_spans term) tree
+row_split forms table key term i low high p q r w =
+    let all = ap (map without_spans) (list_3 forms table key term low high p q r) in
+    let parts = row_parts _ i w in
+    let whole = parts.3 in
+    (parts.0, parts.1, parts.2, cc, cc, record { spelled = cc; lawful = parts.4 })
+
+module _ (forms : List Form) (a b c d : Form) (low : 4 ≤ length forms) (p : a ≡ get_or forms 0 a) (q : b ≡ get_or forms 1 b) (r : c ≡ get_or forms 2 c) (s : d ≡ get_or forms 3 d) where
+  all : map without_spans forms ≡ without_spans a ∷ without_spans b ∷ without_spans c ∷ without_spans d ∷ map without_spans (take (length forms - 4) (drop 4 forms))
+  all = ap (map without_spans) (list_4_up forms a b c d low p q r s)
+
+  -- the parts of a cut, as its reader takes them
+  pub cut_split : (i : Item) → WritesParts file.Points (codes "cut") (map without_spans forms) i → (left : Bool) × (opening : List ℕ × List RawVar) × (body : RawTree × List RawTree) × (without_spans a ≡ plain_word (side_word left)) × WritesOpening (without_spans b) (without_spans c) opening × WritesGuarded Pattern (without_spans d) (map without_spans (take (length forms - 4) (drop 4 forms))) body
+  cut_split i w =
+      let parts = cut_parts _ i w in
+      let whole = sym all ∙ parts.5 in
+      (parts.0, (parts.1, parts.2), (parts.3, parts.4), cc, record { named = cc; over = record { spelled = cc; lawful = parts.6 } }, record { guards = record { spelled = cc; lawful = parts.7 }; whens = record { spelled = cc; lawful = parts.8 } })
+
+  -- and a cut of these parts
+  pub cut_written : (left : Bool) (opening : List ℕ × List RawVar) (body : RawTree × List RawTree) → without_spans a ≡ plain_word (side_word left) → WritesOpening (without_spans b) (without_spans c) opening → WritesGuarded Pattern (without_spans d) (map without_spans (take (length forms - 4) (drop 4 forms))) body → WritesParts file.Points (codes "cut") (map without_spans forms) (Cut left opening.0 opening.1 body.0 body.1)
+  cut_written left opening body u v w =
+      let named = v.named in
+      let over = v.over.spelled in
+      let first = w.guards.spelled in
+      let others = w.whens.spelled in
+      record { word = refl; spelled = all ∙ cc; lawful = (v.over.lawful, w.guards.lawful, w.whens.lawful) }
+
+  -- the parts of a point, as its reader takes them
+  pub point_split : (i : Item) → WritesParts file.Points (codes "point") (map without_spans forms) i → (opening : List ℕ × List RawVar) × (body : RawTree × (RawTree × List RawTree)) × WritesOpening (without_spans a) (without_spans b) opening × WritesPointBody (without_spans c) (without_spans d) (map without_spans (take (length forms - 4) (drop 4 forms))) body
+  point_split i w =
+      let parts = point_parts _ i w in
+      let whole = sym all ∙ parts.5 in
+      ((parts.0, parts.1), (parts.2, (parts.3, parts.4)), record { named = cc; over = record { spelled = cc; lawful = parts.6 } }, record { first = record { spelled = cc; lawful = parts.7 }; second = record { guards = record { spelled = cc; lawful = parts.8 }; whens = record { spelled = cc; lawful = parts.9 } } })
+
+  -- and a point of these parts
+  pub point_written : (opening : List ℕ × List RawVar) (body : RawTree × (RawTree × List RawTree)) → WritesOpening (without_spans a) (without_spans b) opening → WritesPointBody (without_spans c) (without_spans d) (map without_spans (take (length forms - 4) (drop 4 forms))) body → WritesParts file.Points (codes "point") (map without_spans forms) (Point opening.0 opening.1 body.0 body.1.0 body.1.1)
+  point_written opening body v w =
+      let named = v.named in
+      let over = v.over.spelled in
+      let first = w.first.spelled in
+      let second = w.second.guards.spelled in
+      let others = w.second.whens.spelled in
+      record { word = refl; spelled = all ∙ cc; lawful = (v.over.lawful, w.first.lawful, w.second.guards.lawful, w.second.whens.lawful) }
 
 -- what stands behind a rule's head
 pub outcome_parts : (whens : List Form) (arrow last : Form) (demands : List RawDemand) (outcome : RawTree) → WritesOutcome (whens ++ arrow ∷ last ∷ []) demands outcome → (whens ≡ map written_demand demands) × (arrow ≡ plain_word (codes "=>")) × (last ≡ written_tree outcome)

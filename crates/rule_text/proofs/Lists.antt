@@ -1,5 +1,5 @@
 -- Lists of forms and what each of them writes, as loops make them.
-use Rattle.std.proofs.Common.{◌≡◌, ℕ, zero, suc, ◌+◌, ◌≤◌, ◌<◌, List, [], ◌∷◌, ◌++◌, map, take, get_or, length, All, Bool, true, ◌&&◌, sym, ◌∙◌, ap, subst, arith}
+use Rattle.std.proofs.Common.{◌≡◌, ℕ, zero, suc, ◌+◌, ◌≤◌, ◌<◌, List, [], ◌∷◌, ◌++◌, map, take, get_or, length, All, Result, Ok, Err, IsOkAnd, IfOk, Bool, true, ◌&&◌, sym, ◌∙◌, ap, subst, arith}
 use Rattle.std.specs.List.{list_all, AllPass}
 use Rattle.std.proofs.lemmas.List.{map_more, map-append, take_all}
 use Rattle.std.proofs.lemmas.List.Elements.{All-push, All-head, All-tail}
@@ -39,3 +39,8 @@ AllPass_of p ys h = AllPass-from_list_all p ys (sym (list_all-map (λ t. t) p ys
 
 pub list_all_of : {Y : Type 0} (p : Y → Bool) (ys : List Y) → AllPass p ys → list_all (λ t. t) (map p ys) ≡ true
 list_all_of p ys h = list_all-map (λ t. t) p ys ∙ list_all-from_AllPass p ys h
+
+-- what is known of an answer, where there is one, and there is
+pub both_ok : {X E : Type 0} (r : Result X E) (P Q : X → Type 0) → IsOkAnd r P → IfOk r Q → (x : X) × P x × Q x
+both_ok (Ok x) P Q p q = (x, p, q)
+both_ok (Err e) P Q p q = absurd p

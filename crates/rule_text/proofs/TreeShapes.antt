@@ -9,13 +9,13 @@ use Rattle.rule_text.specs.Operators.{is_operator}
 use Rattle.rule_text.specs.Plain.{plain_word, plain_number, plain_list}
 use Rattle.rule_text.specs.Written.{written_pair, written_node, written_tree}
 use Rattle.rule_text.specs.Lawful.{has_maps, has_operators, is_lawful_node, is_lawful_tree}
-use Rattle.rule_text.specs.Writes.{IsHead, WritesTree}
+use Rattle.rule_text.specs.Writes.{IsHead, WritesTree, WritesTrees, WritesFront}
 use Rattle.rule_text.specs.declared.tree.Place.{Place}
 use Rattle.rule_text.specs.declared.item.RawTree.{RawTree}
 use Rattle.rule_text.specs.declared.item.RawTree.TheVariants.{Bits, Map, Con, Op}
 use Rattle.rule_text.proofs.Plain.{same_word}
 use Rattle.rule_text.proofs.Lists.{list_all_of, and_true}
-use Rattle.rule_text.proofs.Slices.{list_cons, length_of, parts_at}
+use Rattle.rule_text.proofs.Slices.{list_cons, list_2_up, length_of, parts_at}
 use Rattle.rule_text.proofs.OperatorTable.{op_reserved, one_count, bits_no_operator, map_no_operator, other_word, bits_reserved, map_reserved}
 use Rattle.rule_text.proofs.Trees.{fold-Bits, fold-Map, fold-Con, fold-Op, con_forms, op_forms, ListTree, of_bits, of_map, of_con, of_op, list_tree}
 
@@ -48,6 +48,10 @@ op_applied place name numbers args reserved (inr op) all = op_written place name
 pub split_tree : (place : Place) (forms : List Form) (front : Form) (t : RawTree) → 1 ≤ length forms → front ≡ get_or forms 0 front → WritesTree place (plain_list (map without_spans forms)) t → ListTree place (without_spans front ∷ map without_spans (take (length forms - 1) (drop 1 forms))) t
 split_tree place forms front t low is w = subst (λ (fs : List Form). ListTree place (map without_spans fs) t) (list_cons forms front low is) (list_tree place (map without_spans forms) t w)
 
+-- the word in front of the forms behind it
+pub behind_front : (forms : List Form) (front : Form) (word : List ℕ) → 1 ≤ length forms → front ≡ get_or forms 0 front → without_spans front ≡ plain_word word → plain_word word ∷ map without_spans (take (length forms - 1) (drop 1 forms)) ≡ map without_spans forms
+behind_front forms front word low p is = ap (λ w. w ∷ map without_spans (take (length forms - 1) (drop 1 forms))) (sym is) ∙ ap (map without_spans) (sym (list_cons forms front low p))
+
 -- a bit vector
 pub bits_written : (place : Place) (forms : List Form) (front : Form) (width n : ℕ) → 1 ≤ length forms → front ≡ get_or forms 0 front → without_spans front ≡ plain_word (codes "bits") → map without_spans (take (length forms - 1) (drop 1 forms)) ≡ plain_number width ∷ plain_number n ∷ [] → WritesTree place (plain_list (map without_spans forms)) (Bits width n)
 bits_written place forms front width n low is word numbers =
@@ -74,6 +78,14 @@ map_parts place rest t w = of (list_tree place (plain_word (codes "map") ∷ res
     of (of_con name args e free all _) = let reserved : is_reserved_word name ≡ true = ap is_reserved_word (same_word name (codes "map") cc) ∙ map_reserved in absurd cc
     of (of_op name numbers args e here takes all _) = absurd (map_no_operator (length numbers) (length args) (ap (λ n. is_operator n (length numbers) (length args)) (same_word (codes "map") name cc) ∙ takes))
 
+-- the same of forms with spans
+pub map_split : (place : Place) (forms : List Form) (key word : Form) (t : RawTree) → 2 ≤ length forms → key ≡ get_or forms 0 key → word ≡ get_or forms 1 word → WritesTree place (plain_list (plain_word (codes "map") ∷ map without_spans forms)) t → (m : ℕ) × (n : ℕ) × (entries : List (ℕ × ℕ)) × (without_spans key ≡ plain_number m) × (without_spans word ≡ plain_number n) × (map without_spans (take (length forms - 2) (drop 2 forms)) ≡ map written_pair entries)
+map_split place forms key word t low p q w =
+    let all = ap (map without_spans) (list_2_up forms key word low p q) in
+    let parts = map_parts place (map without_spans forms) t w in
+    let whole = parts.3 in
+    (parts.0, parts.1, parts.2, cc, cc, cc)
+
 -- a list of no forms is no tree
 pub no_nothing : (place : Place) (t : RawTree) → ListTree place [] t → ⊥
 no_nothing place t (of_bits width n e _) = cc
@@ -98,11 +110,11 @@ module _ (place : Place) (front : Form) (rest : List Form) (t : RawTree) where
   no_bits is others (of_op name numbers args e here takes all _) = bits_no_operator (length numbers) (length args) (ap (λ n. is_operator n (length numbers) (length args)) (same_word (codes "bits") name cc) ∙ takes)
 
   -- a list begins with a word
-  pub no_front : ((name : List ℕ) → front ≢ plain_word name) → ListTree place (front ∷ rest) t → ⊥
-  no_front others (of_bits width n e _) = others (codes "bits") cc
-  no_front others (of_map key word entries e here _) = others (codes "map") cc
-  no_front others (of_con name args e free all _) = others name cc
-  no_front others (of_op name numbers args e here takes all _) = others name cc
+  pub front_name : ListTree place (front ∷ rest) t → (name : List ℕ) × (front ≡ plain_word name)
+  front_name (of_bits width n e _) = (codes "bits", cc)
+  front_name (of_map key word entries e here _) = (codes "map", cc)
+  front_name (of_con name args e free all _) = (name, cc)
+  front_name (of_op name numbers args e here takes all _) = (name, cc)
 
   -- behind another word than `bits` and `map` go numbers and lawful arguments
   pub application : (name : List ℕ) → front ≡ plain_word name → front ≢ plain_word (codes "bits") → front ≢ plain_word (codes "map") → ListTree place (front ∷ rest) t → Application place name rest
@@ -126,38 +138,78 @@ module _ (place : Place) (name : List ℕ) (rest : List Form) (app : Application
   counted : length app.numbers + length app.args ≡ length rest
   counted = rw (sym (length-map app.numbers plain_number), sym (length-map app.args written_tree)) (sym (length-append (map plain_number app.numbers) (map written_tree app.args)) ∙ ap length (sym app.spelled) ∙ length-map rest without_spans)
 
-  -- there is a number of numbers
-  pub some_count : ((n a : ℕ) → n + a ≡ length rest → ¬ IsHead place name n a) → ⊥
-  some_count none = none (length app.numbers) (length app.args) counted app.head
+  parts : (count : ℕ) → count ≡ length app.numbers → (map without_spans (take count rest) ≡ map plain_number app.numbers) × (map without_spans (drop count rest) ≡ map written_tree app.args)
+  parts count same = parts_at without_spans rest count (map plain_number app.numbers) (map written_tree app.args) app.spelled (same ∙ sym (length-map app.numbers plain_number))
+
+  -- the name and the numbers stand in front
+  front_written : (front : Form) → without_spans front ≡ plain_word name → WritesFront place front rest (name, app.numbers)
+  front_written front is =
+      let sum = counted in
+      let others : length app.args ≡ length rest - length app.numbers = omega arith in
+      record { name = is; within = omega arith; numbers = (parts (length app.numbers) refl).0; head = subst (IsHead place name (length app.numbers)) others app.head }
+
+  -- and all other forms are the arguments
+  args_written : (count : ℕ) → count ≤ length rest → IsHead place name count (length rest - count) → WritesTrees place (map without_spans (take (length rest - count) (drop count rest))) app.args
+  args_written count within head =
+      let sum = counted in
+      let same : count ≡ length app.numbers = one_head place name count (length rest - count) (length app.numbers) (length app.args) (omega arith) head app.head in
+      let all : length (drop count rest) ≤ length rest - count = simp length-drop (omega arith) in
+      record { spelled = ap (map without_spans) (take_all (length rest - count) (drop count rest) all) ∙ (parts count same).1; lawful = app.lawful }
+
+module _ (place : Place) (front : Form) (rest : List Form) (t : RawTree) (no_bits : without_spans front ≢ plain_word (codes "bits")) (no_map : without_spans front ≢ plain_word (codes "map")) (tree : ListTree place (without_spans front ∷ map without_spans rest) t) where
+  apply : (name : List ℕ) → without_spans front ≡ plain_word name → Application place name (map without_spans rest)
+  apply name is = application place (without_spans front) (map without_spans rest) t name is no_bits no_map tree
+
+  -- the list begins with a name and its numbers
+  pub front_of : (named : List ℕ × List ℕ) × WritesFront place front rest named
+  front_of =
+      let word = front_name place (without_spans front) (map without_spans rest) t tree in
+      let app = apply word.0 word.1 in
+      ((word.0, app.numbers), front_written place word.0 rest app front word.1)
+
+  -- behind them are arguments
+  pub args_behind : (name numbers : List ℕ) (count : ℕ) → count ≡ length numbers → WritesFront place front rest (name, numbers) → (args : List RawTree) × WritesTrees place (map without_spans (take (length rest - count) (drop count rest))) args
+  args_behind name numbers count is w =
+      let app = apply name w.name in
+      (app.args, args_written place name rest app count (subst (λ n. n ≤ length rest) (sym is) w.within) (subst (λ n. IsHead place name n (length rest - n)) (sym is) w.head))
+
+module _ (place : Place) (front : Form) (rest : List Form) (name : List ℕ) (is : without_spans front ≡ plain_word name) where
+  head_of : (named : List ℕ × List ℕ) → WritesFront place front rest named → IsHead place name (length named.1) (length rest - length named.1)
+  head_of named w = subst (λ n. IsHead place n (length named.1) (length rest - length named.1)) (same_word _ _ (sym w.name ∙ is)) w.head
+
+  -- the name goes in front of a number of numbers
+  pub some_count : ((numbers arguments : ℕ) → numbers + arguments ≡ length rest → ¬ IsHead place name numbers arguments) → (named : List ℕ × List ℕ) → WritesFront place front rest named → ⊥
+  some_count none named w = none (length named.1) (length rest - length named.1) (omega (arith, w.within)) (head_of named w)
 
   module _ (count : ℕ) (within : count ≤ length rest) (head : IsHead place name count (length rest - count)) where
-    parts : (map without_spans (take count rest) ≡ map plain_number app.numbers) × (map without_spans (drop count rest) ≡ map written_tree app.args)
-    parts =
-        let sum = counted in
-        let same : count ≡ length app.numbers = one_head place name count (length rest - count) (length app.numbers) (length app.args) (omega arith) head app.head in
-        parts_at without_spans rest count (map plain_number app.numbers) (map written_tree app.args) app.spelled (same ∙ sym (length-map app.numbers plain_number))
+    -- that many forms are numbers
+    pub numbers_of : (named : List ℕ × List ℕ) → WritesFront place front rest named → map without_spans (take count rest) ≡ map plain_number named.1
+    numbers_of named w =
+        let same : length named.1 ≡ count = one_head place name (length named.1) (length rest - length named.1) count (length rest - count) (omega (arith, w.within, within)) (head_of named w) head in
+        subst (λ n. map without_spans (take n rest) ≡ map plain_number named.1) same w.numbers
 
-    -- so many forms are the numbers
-    pub numbers_of : map without_spans (take count rest) ≡ map plain_number app.numbers
-    numbers_of = parts.0
-
-    -- and all others the arguments
-    pub args_of : map without_spans (take (length rest - count) (drop count rest)) ≡ map written_tree app.args
-    args_of =
-        let all : length (drop count rest) ≤ length rest - count = simp length-drop (omega arith) in
-        ap (map without_spans) (take_all (length rest - count) (drop count rest) all) ∙ parts.1
+    -- the name with these numbers
+    pub numbers_written : (numbers : List ℕ) → map without_spans (take count rest) ≡ map plain_number numbers → WritesFront place front rest (name, numbers)
+    numbers_written numbers all =
+        let same : count ≡ length numbers = sym (length-take-le count rest within) ∙ length_of without_spans (take count rest) (map plain_number numbers) all ∙ length-map numbers plain_number in
+        record {
+          name = is;
+          within = subst (λ n. n ≤ length rest) same within;
+          numbers = subst (λ n. map without_spans (take n rest) ≡ map plain_number numbers) same all;
+          head = subst (λ n. IsHead place name n (length rest - n)) same head;
+        }
 
 -- a name, its numbers and its arguments
-pub all_written : (place : Place) (forms : List Form) (front : Form) (rest : List Form) (name numbers : List ℕ) (args : List RawTree) (count : ℕ) (t : RawTree) → forms ≡ front ∷ rest → without_spans front ≡ plain_word name → count ≤ length rest → IsHead place name count (length rest - count) → map without_spans (take count rest) ≡ map plain_number numbers → map without_spans (take (length rest - count) (drop count rest)) ≡ map written_tree args → (IsHead place name (length numbers) (length args) → WritesTree place (plain_list (op_forms name numbers args)) t) → WritesTree place (plain_list (map without_spans forms)) t
-all_written place forms front rest name numbers args count t split begins within head first second written =
-    let few : length (drop count rest) ≤ length rest - count = simp length-drop (omega arith) in
-    let tail : map without_spans (drop count rest) ≡ map written_tree args = ap (map without_spans) (sym (take_all (length rest - count) (drop count rest) few)) ∙ second in
-    let numbered : length numbers ≡ count = sym (length_of without_spans (take count rest) (map plain_number numbers) first ∙ length-map numbers plain_number) ∙ length-take-le count rest within in
-    let others : length args ≡ length rest - count = sym (length_of without_spans (drop count rest) (map written_tree args) tail ∙ length-map args written_tree) ∙ length-drop count rest in
-    let whole : map without_spans rest ≡ map plain_number numbers ++ map written_tree args = ap (map without_spans) (sym (take-append-drop count rest)) ∙ map-append without_spans (take count rest) (drop count rest) ∙ ap (λ fs. fs ++ map without_spans (drop count rest)) first ∙ ap (λ fs. map plain_number numbers ++ fs) tail in
+pub all_written : (place : Place) (forms : List Form) (front : Form) (rest : List Form) (name numbers : List ℕ) (args : List RawTree) (count : ℕ) (t : RawTree) → forms ≡ front ∷ rest → WritesFront place front rest (name, numbers) → count ≡ length numbers → WritesTrees place (map without_spans (take (length rest - count) (drop count rest))) args → (IsHead place name (length numbers) (length args) → WritesTree place (plain_list (op_forms name numbers args)) t) → WritesTree place (plain_list (map without_spans forms)) t
+all_written place forms front rest name numbers args count t split v is u written =
+    let w : WritesTrees place (map without_spans (take (length rest - length numbers) (drop (length numbers) rest))) args = subst (λ n. WritesTrees place (map without_spans (take (length rest - n) (drop n rest))) args) is u in
+    let few : length (drop (length numbers) rest) ≤ length rest - length numbers = simp length-drop (omega arith) in
+    let tail : map without_spans (drop (length numbers) rest) ≡ map written_tree args = ap (map without_spans) (sym (take_all (length rest - length numbers) (drop (length numbers) rest) few)) ∙ w.spelled in
+    let others : length args ≡ length rest - length numbers = sym (length_of without_spans (drop (length numbers) rest) (map written_tree args) tail ∙ length-map args written_tree) ∙ length-drop (length numbers) rest in
+    let whole : map without_spans rest ≡ map plain_number numbers ++ map written_tree args = ap (map without_spans) (sym (take-append-drop (length numbers) rest)) ∙ map-append without_spans (take (length numbers) rest) (drop (length numbers) rest) ∙ ap (λ fs. fs ++ map without_spans (drop (length numbers) rest)) v.numbers ∙ ap (λ fs. map plain_number numbers ++ fs) tail in
+    let begins = v.name in
     let forms_are : map without_spans forms ≡ op_forms name numbers args = ap (map without_spans) split ∙ cc in
-    let heads : IsHead place name (length numbers) (length args) = subst (λ n. IsHead place name n (length args)) (sym numbered) (subst (IsHead place name count) (sym others) head) in
-    subst (λ fs. WritesTree place (plain_list fs) t) (sym forms_are) (written heads)
+    subst (λ fs. WritesTree place (plain_list fs) t) (sym forms_are) (written (subst (IsHead place name (length numbers)) (sym others) v.head))
 
 -- a reserved word stands before as much as its operator takes
 pub as_operator : (place : Place) (name : List ℕ) (n a m b : ℕ) → is_reserved_word name ≡ true → is_operator name n a ≡ true → IsHead place name m b → (m ≡ n) × (b ≡ a)

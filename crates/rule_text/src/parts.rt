@@ -127,8 +127,13 @@ fn row_key(alloc: Global, parts: &[Form]) -> Result<(Name, RawTree), ShapeError>
         return Err(ShapeError::NoItem);
     };
     let table = word(alloc, table)?;
-    let key = tree(alloc, Place::Expression, key)?;
-    Ok((table, key))
+    match tree(alloc, Place::Expression, key) {
+        Ok(key) => Ok((table, key)),
+        Err(error) => {
+            drop(table);
+            Err(error)
+        }
+    }
 }
 
 // The demand whose pattern and source stand behind `let`.
@@ -142,15 +147,25 @@ fn let_demand(alloc: Global, parts: &[Form]) -> Result<RawDemand, ShapeError>
     };
     let pattern = tree(alloc, Place::Pattern, pattern)?;
     if let Some(row) = behind(source, "row") {
-        let (table, key) = row_key(alloc, row)?;
-        return Ok(RawDemand::LetRow {
-            pattern,
-            table,
-            key,
-        });
+        return match row_key(alloc, row) {
+            Ok((table, key)) => Ok(RawDemand::LetRow {
+                pattern,
+                table,
+                key,
+            }),
+            Err(error) => {
+                drop(pattern);
+                Err(error)
+            }
+        };
     }
-    let source = tree(alloc, Place::Expression, source)?;
-    Ok(RawDemand::Let(pattern, source))
+    match tree(alloc, Place::Expression, source) {
+        Ok(source) => Ok(RawDemand::Let(pattern, source)),
+        Err(error) => {
+            drop(pattern);
+            Err(error)
+        }
+    }
 }
 
 fn demand(alloc: Global, form: &Form) -> Result<RawDemand, ShapeError>

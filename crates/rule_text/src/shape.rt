@@ -4,18 +4,27 @@ ghost use Rattle.sexp_text.specs.Printed.{without_spans};
 ghost use Rattle.rule_text.specs.Plain.{plain_word};
 ghost use Rattle.rule_text.specs.Refused.{RefusedOnlyIfNone};
 ghost use Rattle.rule_text.specs.Shapes.{IsShapeError, IsItemsError};
-ghost use Rattle.rule_text.specs.Writes.{WritesOutcome, WritesParts, WritesItem, WritesItems};
+ghost use Rattle.rule_text.specs.Writes.{
+  WritesOpening,
+  WritesGuarded,
+  WritesOutcome,
+  WritesRuleBody,
+  WritesPointBody,
+  WritesParts,
+  WritesItem,
+  WritesItems,
+};
 ghost use Rattle.rule_text.specs.Written.{side_word};
 ghost use Rattle.rule_text.specs.declared.item.RawDemand.{RawDemand};
 ghost use Rattle.rule_text.specs.declared.item.RawTree.{RawTree};
 
 use crate::error::{ItemError, ItemFault, LoadError, LoadFault};
 use crate::forms::{behind, is_word, number, word};
-use crate::item::{FileKind, Item, ItemList, RawDemands, RawTree};
+use crate::item::{FileKind, Item, ItemList, RawDemands, RawTree, RawTrees, RawVars};
 use crate::parts::{demands, sort, sorts, vars, whens};
 use crate::refused::ShapeError;
 use crate::tree::{Place, tree};
-use sexp_text::Form;
+use sexp_text::{Form, Name};
 use sqlite_items::Items;
 use std::alloc::Global;
 
@@ -203,17 +212,54 @@ fn rule_item(alloc: Global, parts: &[Form]) -> Result<Item, ShapeError>
     let [name, variables, head, rest @ ..] = parts else {
         return Err(ShapeError::NoItem);
     };
+    let (name, vars) = opening(alloc, name, variables)?;
+    match rule_body(alloc, head, rest) {
+        Ok((head, (demands, outcome))) => Ok(Item::Rule {
+            name,
+            vars,
+            head,
+            demands,
+            outcome,
+        }),
+        Err(error) => {
+            drop((name, vars));
+            Err(error)
+        }
+    }
+}
+
+// The name and the variables that a rule, a cut or a point begins with.
+fn opening(alloc: Global, name: &Form, variables: &Form) -> Result<(Name, RawVars), ShapeError>
+    ensures ok { IfOk result (WritesOpening (without_spans name.now) (without_spans variables.now)) }
+    ensures refused { RefusedOnlyIfNone result (WritesOpening (without_spans name.now) (without_spans variables.now)) }
+{
     let name = word(alloc, name)?;
-    let vars = vars(alloc, variables)?;
+    match vars(alloc, variables) {
+        Ok(vars) => Ok((name, vars)),
+        Err(error) => {
+            drop(name);
+            Err(error)
+        }
+    }
+}
+
+// The head of a rule, with its demands and its result.
+fn rule_body(
+    alloc: Global,
+    head: &Form,
+    rest: &[Form],
+) -> Result<(RawTree, (RawDemands, RawTree)), ShapeError>
+    ensures ok { IfOk result (WritesRuleBody (without_spans head.now) (map without_spans rest.now)) }
+    ensures refused { RefusedOnlyIfNone result (WritesRuleBody (without_spans head.now) (map without_spans rest.now)) }
+{
     let head = tree(alloc, Place::Pattern, head)?;
-    let (demands, outcome) = outcome(alloc, rest)?;
-    Ok(Item::Rule {
-        name,
-        vars,
-        head,
-        demands,
-        outcome,
-    })
+    match outcome(alloc, rest) {
+        Ok(end) => Ok((head, end)),
+        Err(error) => {
+            drop(head);
+            Err(error)
+        }
+    }
 }
 
 // The demands of a rule, and its result behind `=>`.
@@ -230,8 +276,13 @@ fn outcome(alloc: Global, forms: &[Form]) -> Result<(RawDemands, RawTree), Shape
         return Err(ShapeError::NoItem);
     }
     let demands = demands(alloc, front)?;
-    let outcome = tree(alloc, Place::Expression, outcome)?;
-    Ok((demands, outcome))
+    match tree(alloc, Place::Expression, outcome) {
+        Ok(outcome) => Ok((demands, outcome)),
+        Err(error) => {
+            drop(demands);
+            Err(error)
+        }
+    }
 }
 
 fn row_item(alloc: Global, parts: &[Form]) -> Result<Item, ShapeError>
@@ -245,8 +296,13 @@ fn row_item(alloc: Global, parts: &[Form]) -> Result<Item, ShapeError>
         return Err(ShapeError::NoItem);
     };
     let table = word(alloc, table)?;
-    let term = tree(alloc, Place::Ground, term)?;
-    Ok(Item::Row { table, key, term })
+    match tree(alloc, Place::Ground, term) {
+        Ok(term) => Ok(Item::Row { table, key, term }),
+        Err(error) => {
+            drop(table);
+            Err(error)
+        }
+    }
 }
 
 fn cut_item(alloc: Global, parts: &[Form]) -> Result<Item, ShapeError>
@@ -259,17 +315,40 @@ fn cut_item(alloc: Global, parts: &[Form]) -> Result<Item, ShapeError>
     let Some(left) = is_left(side) else {
         return Err(ShapeError::NoItem);
     };
-    let name = word(alloc, name)?;
-    let vars = vars(alloc, variables)?;
-    let pattern = tree(alloc, Place::Pattern, pattern)?;
-    let whens = whens(alloc, rest)?;
-    Ok(Item::Cut {
-        left,
-        name,
-        vars,
-        pattern,
-        whens,
-    })
+    let (name, vars) = opening(alloc, name, variables)?;
+    match guarded(alloc, Place::Pattern, pattern, rest) {
+        Ok((pattern, whens)) => Ok(Item::Cut {
+            left,
+            name,
+            vars,
+            pattern,
+            whens,
+        }),
+        Err(error) => {
+            drop((name, vars));
+            Err(error)
+        }
+    }
+}
+
+// A tree with the conditions behind it.
+fn guarded(
+    alloc: Global,
+    place: Place,
+    form: &Form,
+    rest: &[Form],
+) -> Result<(RawTree, RawTrees), ShapeError>
+    ensures ok { IfOk result (WritesGuarded place (without_spans form.now) (map without_spans rest.now)) }
+    ensures refused { RefusedOnlyIfNone result (WritesGuarded place (without_spans form.now) (map without_spans rest.now)) }
+{
+    let tree = tree(alloc, place, form)?;
+    match whens(alloc, rest) {
+        Ok(whens) => Ok((tree, whens)),
+        Err(error) => {
+            drop(tree);
+            Err(error)
+        }
+    }
 }
 
 // Whether a side is the left one, where it is a side.
@@ -293,16 +372,39 @@ fn point_item(alloc: Global, parts: &[Form]) -> Result<Item, ShapeError>
     let [name, variables, left, right, rest @ ..] = parts else {
         return Err(ShapeError::NoItem);
     };
-    let name = word(alloc, name)?;
-    let vars = vars(alloc, variables)?;
+    let (name, vars) = opening(alloc, name, variables)?;
+    match point_body(alloc, left, right, rest) {
+        Ok((left, (right, whens))) => Ok(Item::Point {
+            name,
+            vars,
+            left,
+            right,
+            whens,
+        }),
+        Err(error) => {
+            drop((name, vars));
+            Err(error)
+        }
+    }
+}
+
+// The left term of a point, with the right one and the conditions.
+fn point_body(
+    alloc: Global,
+    left: &Form,
+    right: &Form,
+    rest: &[Form],
+) -> Result<(RawTree, (RawTree, RawTrees)), ShapeError>
+    ensures ok { IfOk result (WritesPointBody (without_spans left.now) (without_spans right.now) (map without_spans rest.now)) }
+    ensures refused { RefusedOnlyIfNone result
+        (WritesPointBody (without_spans left.now) (without_spans right.now) (map without_spans rest.now)) }
+{
     let left = tree(alloc, Place::Expression, left)?;
-    let right = tree(alloc, Place::Expression, right)?;
-    let whens = whens(alloc, rest)?;
-    Ok(Item::Point {
-        name,
-        vars,
-        left,
-        right,
-        whens,
-    })
+    match guarded(alloc, Place::Expression, right, rest) {
+        Ok(end) => Ok((left, end)),
+        Err(error) => {
+            drop(left);
+            Err(error)
+        }
+    }
 }

@@ -14,6 +14,9 @@ ghost use Rattle.std.specs.Prelude.{
   length,
   codes,
   IsNone,
+  IsOk,
+  IsOkAnd,
+  IsErrOf,
   IfOk,
   IfSome,
 };
@@ -22,7 +25,7 @@ ghost use Rattle.sexp_text.specs.Printed.{without_spans};
 ghost use Rattle.rule_text.specs.Lawful.{is_lawful_tree};
 ghost use Rattle.rule_text.specs.Plain.{plain_word, plain_number, plain_list};
 ghost use Rattle.rule_text.specs.Refused.{RefusedOnlyIfNone};
-ghost use Rattle.rule_text.specs.Writes.{IsHead, WritesTree};
+ghost use Rattle.rule_text.specs.Writes.{IsHead, WritesTree, WritesFront};
 ghost use Rattle.rule_text.specs.Written.{flag_word, written_pair, written_tree};
 
 use crate::forms::{is_reserved, is_word, list, number, number_pair, numbers, word};
@@ -120,6 +123,30 @@ fn number_count(place: Place, name: &Name, forms: usize) -> Option<usize>
     None
 }
 
+// The name that a list begins with and the numbers behind it, where all other forms are arguments.
+fn named_numbers(
+    alloc: Global,
+    place: Place,
+    front: &Form,
+    rest: &[Form],
+) -> Result<(Name, Numbers), ShapeError>
+    ensures ok { IfOk result (WritesFront place front.now rest.now) }
+    ensures refused { RefusedOnlyIfNone result (WritesFront place front.now rest.now) }
+{
+    let name = word(alloc, front)?;
+    let Some(count) = number_count(place, &name, rest.len()) else {
+        drop(name);
+        return Err(ShapeError::NoItem);
+    };
+    match numbers(alloc, &rest[..count]) {
+        Ok(numbers) => Ok((name, numbers)),
+        Err(error) => {
+            drop(name);
+            Err(error)
+        }
+    }
+}
+
 // A constructor or an operator with its numbers and arguments.
 fn applied(name: Name, numbers: Numbers, args: RawTrees) -> RawTree
     ensures { (place : Place) → IsHead place name (length numbers) (length args) →
@@ -134,6 +161,15 @@ fn applied(name: Name, numbers: Numbers, args: RawTrees) -> RawTree
         };
     }
     RawTree::Con(name, args)
+}
+
+// Puts a tree behind others, where there is one.
+fn push(trees: &mut RawTrees, tree: Result<RawTree, ShapeError>) -> Result<(), ShapeError>
+    ensures ok { IsOk result → IsOkAnd tree (λ tree. trees.new ≡ trees.old ++ tree ∷ []) }
+    ensures refused { IsErrOf result ShapeError.NoItem → IsErrOf tree ShapeError.NoItem }
+{
+    trees.push(tree?)?;
+    Ok(())
 }
 
 /// The tree that a form writes.
@@ -175,14 +211,13 @@ fn list_tree(alloc: Global, place: Place, forms: &[Form]) -> Result<RawTree, Sha
     if is_word(front, "map") {
         return map_tree(alloc, place, rest);
     }
-    let name = word(alloc, front)?;
-    let Some(count) = number_count(place, &name, rest.len()) else {
-        return Err(ShapeError::NoItem);
-    };
-    let numbers = numbers(alloc, &rest[..count])?;
+    let (name, numbers) = named_numbers(alloc, place, front, rest)?;
     let mut args = Items::new(alloc);
-    for form in &rest[count..] {
-        args.push(tree(alloc, place, form)?)?;
+    for form in &rest[numbers.len()..] {
+        if let Err(error) = push(&mut args, tree(alloc, place, form)) {
+            drop((name, numbers, args));
+            return Err(error);
+        }
     }
     Ok(applied(name, numbers, args))
 }

@@ -3,3 +3,4 @@ mod Checking
 mod Counts
 pub mod Drafts
 pub mod OneText
+mod RuleParts

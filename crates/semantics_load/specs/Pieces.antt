@@ -63,6 +63,11 @@ demand_of known vars (written.When e) = option_map When (expression_of known var
 abbrev pub demands_of : Vocabulary → List (List ℕ) → List RawDemand → Option (List Demand)
 demands_of known vars raws = all_there (map (demand_of known vars) raws)
 
+-- two parts, where both are there
+abbrev pub both_from : {X Y : Type 0} → Option X → Option Y → Option (X × Y)
+both_from (Some x) (Some y) = Some (x, y)
+both_from _ _ = None
+
 -- a rule, where its parts are there
 abbrev pub rule_from : List ℕ → Option (List Var) → Option Pattern → Option (List Demand) → Option RuleExpr → Option Rule
 rule_from name (Some vars) (Some head) (Some demands) (Some end) = Some (record { name = name; vars = vars; head = head; demands = demands; result = end })

@@ -126,6 +126,7 @@ fn rule_names(
     if are_sorts_named(&known, vars) && are_terms_named(&known, &names, head, demands, outcome) {
         Ok(Some(names))
     } else {
+        drop(names);
         Ok(None)
     }
 }

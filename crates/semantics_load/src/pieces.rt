@@ -1,10 +1,11 @@
 // What an item says.
-ghost use Rattle.std.specs.Prelude.{◌≡◌, ◌↔◌, IsTrue, IfOk, map};
+ghost use Rattle.std.specs.Prelude.{◌≡◌, ◌↔◌, IsTrue, IfOk, map, Some};
 ghost use Rattle.rule_text.specs.declared.item.Item.{Item};
 ghost use Rattle.sort_term.specs.Sorted.{all_there};
 ghost use Rattle.name_resolution.specs.Known.{vocabulary_of, sort_of};
 ghost use Rattle.name_resolution.specs.Variables.{names_of};
-ghost use Rattle.semantics_load.specs.Pieces.{demand_of, demands_of, names_in, piece_of};
+ghost use Rattle.name_resolution.specs.Reads.{pattern_of, expression_of, variables_of};
+ghost use Rattle.semantics_load.specs.Pieces.{both_from, demand_of, demands_of, rule_from, names_in, piece_of};
 ghost use Rattle.semantics_load.specs.Loads.{IsSemanticsItem};
 
 use crate::draft::SemanticsDraft;
@@ -13,7 +14,7 @@ use name_resolution::{Known, NameTable, is_width, read_tree, variables};
 use no_memory::NoMemory;
 use rule_text::{Item, RawDemand, RawSort, RawTree, RawVar};
 use sexp_text::Name;
-use sort_term::{Con, Demand, Demands, Pattern, Rule, RuleExpr, Sorts, Source, Table};
+use sort_term::{Con, Demand, Demands, Pattern, Rule, RuleExpr, Sorts, Source, Table, Vars};
 use sqlite_items::Items;
 use std::alloc::Global;
 
@@ -81,10 +82,16 @@ fn con_piece(
         return Ok(None);
     };
     let Some(sort) = known.declared(sort) else {
+        drop(args);
         return Ok(None);
     };
-    let name = name.copy(alloc)?;
-    Ok(Some(Piece::Con(Con { name, args, sort })))
+    match name.copy(alloc) {
+        Ok(name) => Ok(Some(Piece::Con(Con { name, args, sort }))),
+        Err(error) => {
+            drop(args);
+            Err(error)
+        }
+    }
 }
 
 // The sorts of the arguments of a constructor; None where one is no sort.
@@ -154,26 +161,106 @@ fn rule_piece(
     ensures { IfOk result (λ p. p ≡ piece_of draft.now (Item.Rule name.now vars.now head.now demands.now outcome.now)) }
 {
     let known = draft.known();
-    let Some(vars) = variables(alloc, &known, vars)? else {
+    let Some(front) = read_front(alloc, &known, names, vars, head)? else {
         return Ok(None);
     };
-    let Some(head) = read_tree::<Pattern>(alloc, &known, names, head)? else {
+    match read_end(alloc, &known, names, demands, outcome) {
+        Ok(Some(end)) => {
+            let rule = named_rule(alloc, name, front, end)?;
+            Ok(Some(Piece::Rule(rule)))
+        }
+        Ok(None) => {
+            drop(front);
+            Ok(None)
+        }
+        Err(error) => {
+            drop(front);
+            Err(error)
+        }
+    }
+}
+
+// The variables and the head of a rule; None where one of them is none.
+fn read_front(
+    alloc: Global,
+    known: &Known<'_>,
+    names: &NameTable,
+    vars: &[RawVar],
+    head: &RawTree,
+) -> Result<Option<(Vars, Pattern)>, NoMemory>
+    ensures { IfOk result (λ front. front ≡ both_from
+        (variables_of (vocabulary_of known.now) vars.now) (pattern_of (vocabulary_of known.now) names.now head.now)) }
+{
+    let Some(vars) = variables(alloc, known, vars)? else {
         return Ok(None);
     };
-    let Some(demands) = read_demands(alloc, &known, names, demands)? else {
+    match read_tree::<Pattern>(alloc, known, names, head) {
+        Ok(Some(head)) => Ok(Some((vars, head))),
+        Ok(None) => {
+            drop(vars);
+            Ok(None)
+        }
+        Err(error) => {
+            drop(vars);
+            Err(error)
+        }
+    }
+}
+
+// The demands and the result of a rule; None where one of them is none.
+fn read_end(
+    alloc: Global,
+    known: &Known<'_>,
+    names: &NameTable,
+    demands: &[RawDemand],
+    outcome: &RawTree,
+) -> Result<Option<(Demands, RuleExpr)>, NoMemory>
+    ensures { IfOk result (λ end. end ≡ both_from
+        (demands_of (vocabulary_of known.now) names.now demands.now)
+        (expression_of (vocabulary_of known.now) names.now outcome.now)) }
+{
+    let Some(demands) = read_demands(alloc, known, names, demands)? else {
         return Ok(None);
     };
-    let Some(result) = read_tree::<RuleExpr>(alloc, &known, names, outcome)? else {
-        return Ok(None);
-    };
-    let name = name.copy(alloc)?;
-    Ok(Some(Piece::Rule(Rule {
-        name,
-        vars,
-        head,
-        demands,
-        result,
-    })))
+    match read_tree::<RuleExpr>(alloc, known, names, outcome) {
+        Ok(Some(result)) => Ok(Some((demands, result))),
+        Ok(None) => {
+            drop(demands);
+            Ok(None)
+        }
+        Err(error) => {
+            drop(demands);
+            Err(error)
+        }
+    }
+}
+
+// The rule of these parts, with a copy of its name.
+fn named_rule(
+    alloc: Global,
+    name: &Name,
+    front: (Vars, Pattern),
+    end: (Demands, RuleExpr),
+) -> Result<Rule, NoMemory>
+    ensures { IfOk result (λ rule. Some rule ≡ rule_from name.now (Some front.0) (Some front.1) (Some end.0) (Some end.1)) }
+{
+    match name.copy(alloc) {
+        Ok(name) => {
+            let (vars, head) = front;
+            let (demands, result) = end;
+            Ok(Rule {
+                name,
+                vars,
+                head,
+                demands,
+                result,
+            })
+        }
+        Err(error) => {
+            drop((front, end));
+            Err(error)
+        }
+    }
 }
 
 // The demands of a rule; None where one is none.
@@ -249,12 +336,20 @@ fn read_let_row(
         return Ok(None);
     };
     let Some((table, _)) = known.table(table) else {
+        drop(pattern);
         return Ok(None);
     };
-    let Some(key) = read_tree::<RuleExpr>(alloc, known, names, key)? else {
-        return Ok(None);
-    };
-    Ok(Some(Demand::Let(pattern, Source::Row(table, key))))
+    match read_tree::<RuleExpr>(alloc, known, names, key) {
+        Ok(Some(key)) => Ok(Some(Demand::Let(pattern, Source::Row(table, key)))),
+        Ok(None) => {
+            drop(pattern);
+            Ok(None)
+        }
+        Err(error) => {
+            drop(pattern);
+            Err(error)
+        }
+    }
 }
 
 // A condition.

@@ -194,8 +194,8 @@ pub fn whens(out: &mut Shown, whens: &[RuleExpr]) -> Result<(), AllocError> {
     Ok(())
 }
 
-// The name of an operator, with its numbers.
-fn operator(out: &mut Shown, op: Op) -> Result<(), AllocError> {
+/// Writes the parenthesis before an operator, its name and its numbers.
+pub fn operator(out: &mut Shown, op: Op) -> Result<(), AllocError> {
     match op {
         Op::Extract { hi, lo } => {
             out.number("(extract ", u64::from(hi))?;

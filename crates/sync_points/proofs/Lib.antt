@@ -1,4 +1,5 @@
 mod Passing
+mod Read
 mod Said
 mod Kept
 pub mod Drafts

@@ -53,14 +53,21 @@ impl<'a> PointsDraft<'a> {
     ) -> Result<PointsDraft<'a>, NoMemory>
         ensures { IfOk result (λ d. d ≡ no_points left.now right.now) }
     {
-        Ok(PointsDraft {
-            left,
-            right,
-            left_words: Vocabulary::of(alloc, left)?,
-            right_words: Vocabulary::of(alloc, right)?,
-            none: NameTable::new(alloc),
-            named: NamedPoints::new(alloc),
-        })
+        let left_words = Vocabulary::of(alloc, left)?;
+        match Vocabulary::of(alloc, right) {
+            Ok(right_words) => Ok(PointsDraft {
+                left,
+                right,
+                left_words,
+                right_words,
+                none: NameTable::new(alloc),
+                named: NamedPoints::new(alloc),
+            }),
+            Err(error) => {
+                drop(left_words);
+                Err(error)
+            }
+        }
     }
 
     /// The left semantics.

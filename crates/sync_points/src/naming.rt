@@ -74,6 +74,7 @@ fn cut_names(
     if are_parts_named(known, &names, pattern, whens) {
         Ok(Some(names))
     } else {
+        drop(names);
         Ok(None)
     }
 }
@@ -113,6 +114,7 @@ fn point_names(
     if are_terms_named(draft, &names, left, right, whens) {
         Ok(Some(names))
     } else {
+        drop(names);
         Ok(None)
     }
 }

@@ -1,7 +1,8 @@
 // What an item says, with numbers in the place of names.
-ghost use Rattle.std.specs.Prelude.{◌≡◌, ◌↔◌, true, false, IsTrue, IfOk};
+ghost use Rattle.std.specs.Prelude.{◌≡◌, ◌↔◌, true, false, IsTrue, IfOk, MatchOption, None, Some};
 ghost use Rattle.rule_text.specs.declared.item.Item.TheVariants as item;
 ghost use Rattle.name_resolution.specs.Known.{vocabulary_of, vocabulary_in};
+ghost use Rattle.name_resolution.specs.Reads.{expressions_of, tree_of};
 ghost use Rattle.name_resolution.specs.Variables.{names_of};
 ghost use Rattle.sync_points.specs.Loads.{IsPointsItem};
 ghost use Rattle.sync_points.specs.Names.{vars_in};
@@ -9,11 +10,11 @@ ghost use Rattle.sync_points.specs.Pieces.{cut_of, point_of, piece_of};
 
 use crate::draft::PointsDraft;
 use crate::piece::Piece;
-use name_resolution::{Known, NameTable, read_expressions, read_tree, variables};
+use name_resolution::{Known, NameTable, Readable, read_expressions, read_tree, variables};
 use no_memory::NoMemory;
 use rule_text::{Item, RawTree, RawVar};
 use sexp_text::Name;
-use sort_term::{Cut, Pattern, Point, RuleExpr, Side};
+use sort_term::{Cut, Pattern, Point, RuleExpr, RuleExprs, Side, Vars};
 use std::alloc::Global;
 use std::marker::PhantomData;
 
@@ -142,19 +143,26 @@ fn cut_of<S: Side>(
     let Some(vars) = variables(alloc, known, vars)? else {
         return Ok(None);
     };
-    let Some(pattern) = read_tree::<Pattern>(alloc, known, names, pattern)? else {
+    let Some(parts) = with_tree::<Vars, Pattern>(alloc, known, names, vars, pattern)? else {
         return Ok(None);
     };
-    let Some(whens) = read_expressions(alloc, known, names, whens)? else {
+    let Some((parts, whens)) = with_expressions(alloc, known, names, parts, whens)? else {
         return Ok(None);
     };
-    Ok(Some(Cut {
-        name: name.copy(alloc)?,
-        vars,
-        pattern,
-        whens,
-        side: PhantomData,
-    }))
+    let (vars, pattern) = parts;
+    match name.copy(alloc) {
+        Ok(name) => Ok(Some(Cut {
+            name,
+            vars,
+            pattern,
+            whens,
+            side: PhantomData,
+        })),
+        Err(error) => {
+            drop((vars, pattern, whens));
+            Err(error)
+        }
+    }
 }
 
 // The point that is written, whose variables have these names.
@@ -175,20 +183,76 @@ fn point_of(
     let Some(vars) = variables(alloc, &none, vars)? else {
         return Ok(None);
     };
-    let Some(left) = read_tree::<RuleExpr>(alloc, &draft.left_known(), names, left)? else {
+    let known = draft.left_known();
+    let Some(parts) = with_tree::<Vars, RuleExpr>(alloc, &known, names, vars, left)? else {
         return Ok(None);
     };
-    let Some(right) = read_tree::<RuleExpr>(alloc, &draft.right_known(), names, right)? else {
+    let known = draft.right_known();
+    let Some(parts) = with_tree::<(Vars, RuleExpr), RuleExpr>(alloc, &known, names, parts, right)?
+    else {
         return Ok(None);
     };
-    let Some(whens) = read_expressions(alloc, &none, names, whens)? else {
+    let Some((parts, whens)) = with_expressions(alloc, &none, names, parts, whens)? else {
         return Ok(None);
     };
-    Ok(Some(Point {
-        name: name.copy(alloc)?,
-        vars,
-        left,
-        right,
-        whens,
-    }))
+    let ((vars, left), right) = parts;
+    match name.copy(alloc) {
+        Ok(name) => Ok(Some(Point {
+            name,
+            vars,
+            left,
+            right,
+            whens,
+        })),
+        Err(error) => {
+            drop((vars, left, right, whens));
+            Err(error)
+        }
+    }
+}
+
+// What was read before, with what a tree is read as; None where it is nothing.
+fn with_tree<A: Drop, X: Readable>(
+    alloc: Global,
+    known: &Known<'_>,
+    names: &NameTable,
+    before: A,
+    raw: &RawTree,
+) -> Result<Option<(A, X)>, NoMemory>
+    ensures { IfOk result (λ both. MatchOption both (tree_of X.reading (vocabulary_of known.now) names.now raw.now ≡ None) (λ p. (p.0 ≡ before) × (tree_of X.reading (vocabulary_of known.now) names.now raw.now ≡ Some p.1))) }
+{
+    match read_tree::<X>(alloc, known, names, raw) {
+        Ok(Some(read)) => Ok(Some((before, read))),
+        Ok(None) => {
+            drop(before);
+            Ok(None)
+        }
+        Err(error) => {
+            drop(before);
+            Err(error)
+        }
+    }
+}
+
+// What was read before, with the expressions that trees are; None where one is none.
+fn with_expressions<A: Drop>(
+    alloc: Global,
+    known: &Known<'_>,
+    names: &NameTable,
+    before: A,
+    raws: &[RawTree],
+) -> Result<Option<(A, RuleExprs)>, NoMemory>
+    ensures { IfOk result (λ both. MatchOption both (expressions_of (vocabulary_of known.now) names.now raws.now ≡ None) (λ p. (p.0 ≡ before) × (expressions_of (vocabulary_of known.now) names.now raws.now ≡ Some p.1))) }
+{
+    match read_expressions(alloc, known, names, raws) {
+        Ok(Some(read)) => Ok(Some((before, read))),
+        Ok(None) => {
+            drop(before);
+            Ok(None)
+        }
+        Err(error) => {
+            drop(before);
+            Err(error)
+        }
+    }
 }

@@ -9,6 +9,7 @@ use data_value::{Ground, Scalar, Value};
 use example_cases::Failed;
 use no_memory::NoMemory;
 use sexp_text::{Form, FormKind};
+use shown_terms::operands;
 use std::alloc::Global;
 
 const NAMES: [&[u8]; 6] = [b"flag", b"negation", b"both", b"either", b"equal", b"all"];
@@ -34,18 +35,9 @@ fn found(alloc: Global, name: &[u8], arguments: &[Form]) -> Result<&'static str,
     }
     let mut truths = Vec::new(alloc);
     for argument in arguments {
-        truths.push(truth_of(argument)?)?;
+        truths.push(operands::truth(argument)?)?;
     }
     of_truths(alloc, name, truths.as_slice())
-}
-
-/// The truth value that a form is.
-pub(crate) fn truth_of(form: &Form) -> Result<bool, Failed> {
-    match &form.kind {
-        FormKind::Word(name) if name.as_slice() == b"true".as_slice() => Ok(true),
-        FormKind::Word(name) if name.as_slice() == b"false".as_slice() => Ok(false),
-        _ => Err(Failed::NoCall),
-    }
 }
 
 // What `equal` answers of two words of 8 bits.
@@ -54,8 +46,10 @@ fn same_words(alloc: Global, name: &[u8], a: u64, b: u64) -> Result<&'static str
         return Err(Failed::NoCall);
     }
     let mut d = Ground::new(alloc);
-    let found = equal(alloc, &mut d, &word(a), &word(b))?;
-    Ok(told(known_truth(&d, &found)))
+    let (a, b) = (word(a), word(b));
+    let found = equal(alloc, &mut d, &a, &b);
+    drop((a, b));
+    Ok(told(known_truth(&d, &found?)))
 }
 
 fn word(bits: u64) -> Value
@@ -69,16 +63,64 @@ fn word(bits: u64) -> Value
 // What a call answers of truth values.
 fn of_truths(alloc: Global, name: &[u8], truths: &[bool]) -> Result<&'static str, Failed> {
     let mut d = Ground::new(alloc);
-    let found = match truths {
-        [a] if name == b"flag".as_slice() => flag(&mut d, *a)?,
-        [a] if name == b"negation".as_slice() => negation(alloc, &mut d, &node(*a))?,
-        [a, b] if name == b"both".as_slice() => both(alloc, &mut d, &node(*a), &node(*b))?,
-        [a, b] if name == b"either".as_slice() => either(alloc, &mut d, &node(*a), &node(*b))?,
-        [a, b] if name == b"equal".as_slice() => equal(alloc, &mut d, &node(*a), &node(*b))?,
-        _ if name == b"all".as_slice() => all(alloc, &mut d, nodes(alloc, truths)?.as_slice())?,
-        _ => return Err(Failed::NoCall),
-    };
+    let found = condition(alloc, &mut d, name, truths)?;
     Ok(told(known_truth(&d, &found)))
+}
+
+fn condition(alloc: Global, d: &mut Ground, name: &[u8], truths: &[bool]) -> Result<Value, Failed>
+    ensures { IfOk result (λ n. IsCondition (ground_seen n)) }
+{
+    if name == b"all".as_slice() {
+        return Ok(of_all(alloc, d, truths)?);
+    }
+    match truths {
+        [a] => of_one(alloc, d, name, *a),
+        [a, b] => {
+            let (a, b) = (node(*a), node(*b));
+            let found = of_two(alloc, d, name, &a, &b);
+            drop((a, b));
+            found
+        }
+        _ => Err(Failed::NoCall),
+    }
+}
+
+fn of_one(alloc: Global, d: &mut Ground, name: &[u8], truth: bool) -> Result<Value, Failed>
+    ensures { IfOk result (λ n. IsCondition (ground_seen n)) }
+{
+    if name == b"flag".as_slice() {
+        return Ok(flag(d, truth)?);
+    }
+    if name == b"negation".as_slice() {
+        return Ok(negation(alloc, d, &node(truth))?);
+    }
+    Err(Failed::NoCall)
+}
+
+fn of_two(alloc: Global, d: &mut Ground, name: &[u8], a: &Value, b: &Value) -> Result<Value, Failed>
+    requires first { IsCondition (ground_seen a.now) }
+    requires second { IsCondition (ground_seen b.now) }
+    ensures { IfOk result (λ n. IsCondition (ground_seen n)) }
+{
+    if name == b"both".as_slice() {
+        return Ok(both(alloc, d, a, b)?);
+    }
+    if name == b"either".as_slice() {
+        return Ok(either(alloc, d, a, b)?);
+    }
+    if name == b"equal".as_slice() {
+        return Ok(equal(alloc, d, a, b)?);
+    }
+    Err(Failed::NoCall)
+}
+
+fn of_all(alloc: Global, d: &mut Ground, truths: &[bool]) -> Result<Value, NoMemory>
+    ensures { IfOk result (λ n. IsCondition (ground_seen n)) }
+{
+    let nodes = nodes(alloc, truths)?;
+    let found = all(alloc, d, nodes.as_slice());
+    drop(nodes);
+    found
 }
 
 fn node(truth: bool) -> Value

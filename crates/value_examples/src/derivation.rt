@@ -1,11 +1,16 @@
 //! Calls of `Derivation::derive`, of `refute_check::check`, and of `are_below` as `(below COUNT (CLAUSE ..))`. A step is the number of a clause to start with and links, each a
 //! literal to resolve on and the number of a clause, as `(START (LITERAL CLAUSE) ..)`.
+ghost use Rattle.std.specs.Prelude.{◌<◌, IfOk, length};
+
 use crate::clauses::{clause_list, clauses, lit};
 use example_cases::{Failed, list, small};
-use refute_check::{Checked, Clause, Derivation, Link, Step, Steps, are_below, check};
+use refute_check::{
+    Checked, Clause, Clauses, Derivation, Link, Lit, Step, Steps, are_below, check,
+};
 use sexp_text::Form;
+use shown_terms::Shown;
 use sqlite_items::Items;
-use std::alloc::Global;
+use std::alloc::{AllocError, Global};
 
 /// What the call with this name answers; None where there is no such call.
 pub(crate) fn answer(
@@ -14,45 +19,81 @@ pub(crate) fn answer(
     arguments: &[Form],
 ) -> Result<Option<String>, Failed> {
     let answer = match arguments {
-        [base, step] if name == b"derive".as_slice() => derived(alloc, base, step)?,
-        [base, steps @ ..] if name == b"check".as_slice() => checked(alloc, base, steps)?,
-        [count, clause] if name == b"below".as_slice() => below(alloc, count, clause)?,
+        [base, step] if name == b"derive".as_slice() => derived(alloc, base, step),
+        [base, steps @ ..] if name == b"check".as_slice() => checked(alloc, base, steps),
+        [count, clause] if name == b"below".as_slice() => below(alloc, count, clause),
         _ => return Ok(None),
     };
-    Ok(Some(answer))
+    Ok(Some(answer?))
 }
 
 // The literals of the clause that a step derives.
 fn derived(alloc: Global, base: &Form, step: &Form) -> Result<String, Failed> {
     let mut derivation = Derivation::new(alloc, clauses(alloc, list(base)?)?)?;
+    let text = derived_in(alloc, &mut derivation, step);
+    drop(derivation);
+    text
+}
+
+fn derived_in(alloc: Global, derivation: &mut Derivation, step: &Form) -> Result<String, Failed> {
     let step = step_of(alloc, step)?;
+    let id = derive(derivation, &step);
+    drop(step);
+    written(alloc, derivation.clause(id?))
+}
+
+fn derive(derivation: &mut Derivation, step: &Step) -> Result<usize, Failed>
+    ensures { IfOk result (λ id. id < length derivation.new.clauses) }
+{
     let count = derivation.len();
     if step.start >= count || !step.chain.as_slice().iter().all(|link| link.clause < count) {
         return Err(Failed::NoCall);
     }
-    let id = derivation.derive(step.start, step.chain.as_slice())?;
-    written(alloc, derivation.clause(id))
+    Ok(derivation.derive(step.start, step.chain.as_slice())?)
 }
 
 // What steps over clauses come to.
 fn checked(alloc: Global, base: &Form, forms: &[Form]) -> Result<String, Failed> {
     let clauses = clauses(alloc, list(base)?)?;
-    let mut steps: Steps = Items::new(alloc);
+    let text = checked_over(alloc, &clauses, forms);
+    drop(clauses);
+    text
+}
+
+fn checked_over(alloc: Global, clauses: &Clauses, forms: &[Form]) -> Result<String, Failed> {
+    let steps = steps_of(alloc, forms)?;
+    let found = check(alloc, clauses, &steps);
+    drop(steps);
+    Ok(in_words(alloc, found?)?)
+}
+
+fn steps_of(alloc: Global, forms: &[Form]) -> Result<Steps, Failed> {
+    let mut steps = Items::new(alloc);
     for form in forms {
         steps.push(step_of(alloc, form)?)?;
     }
-    let text = match check(alloc, &clauses, &steps)? {
-        Checked::Refuted => String::from_str(alloc, "refuted")?,
-        Checked::NoEmpty => String::from_str(alloc, "no empty clause")?,
-        Checked::BadId(step) => format!(in alloc; "step {step} is bad")?,
-    };
-    Ok(text)
+    Ok(steps)
+}
+
+fn in_words(alloc: Global, checked: Checked) -> Result<String, AllocError> {
+    match checked {
+        Checked::Refuted => String::from_str(alloc, "refuted"),
+        Checked::NoEmpty => String::from_str(alloc, "no empty clause"),
+        Checked::BadId(step) => format!(in alloc; "step {step} is bad"),
+    }
 }
 
 // Whether the variables of clauses are below a number.
 fn below(alloc: Global, count: &Form, clauses: &Form) -> Result<String, Failed> {
     let clauses = clause_list(alloc, list(clauses)?)?;
-    let is_below = are_below(small(count)?, clauses.as_slice());
+    let is_below = match small(count) {
+        Ok(count) => are_below(count, clauses.as_slice()),
+        Err(failed) => {
+            drop(clauses);
+            return Err(failed);
+        }
+    };
+    drop(clauses);
     Ok(String::from_str(alloc, if is_below { "true" } else { "false" })?)
 }
 
@@ -82,15 +123,20 @@ fn link_of(form: &Form) -> Result<Link, Failed> {
 
 // The literals, in their order, as they are read.
 fn written(alloc: Global, clause: &Clause) -> Result<String, Failed> {
-    let mut text = String::from_str(alloc, "(")?;
+    let mut out = Shown::new(alloc);
+    out.put("(")?;
     for (place, lit) in clause.as_slice().iter().enumerate() {
-        let (space, var) = (if place == 0 { "" } else { " " }, lit.var);
-        if lit.positive {
-            text.push_str(&format!(in alloc; "{space}{var}")?)?;
-        } else {
-            text.push_str(&format!(in alloc; "{space}(not {var})")?)?;
-        }
+        out.put(if place == 0 { "" } else { " " })?;
+        put_lit(&mut out, lit)?;
     }
-    text.push_str(")")?;
-    Ok(text)
+    out.put(")")?;
+    Ok(out.into_text())
+}
+
+fn put_lit(out: &mut Shown, lit: &Lit) -> Result<(), AllocError> {
+    if lit.positive {
+        return out.place("", lit.var);
+    }
+    out.place("(not ", lit.var)?;
+    out.put(")")
 }

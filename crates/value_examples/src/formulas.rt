@@ -3,15 +3,17 @@
 //! ..) ROOT (WORD ..))` answers the values of all places where the inputs have these words, and `(words (WIDTH ..) (WORD ..))` whether
 //! words fit widths. Where the root is the last node, `(solve (WIDTH ..) (NODE ..))` answers words that make it true, found as a model
 //! of the formula's circuit, and `(size (WIDTH ..) (NODE ..))` how large that circuit is.
-use crate::{clauses, operands};
-use bv_blast::{blast, words};
+use crate::clauses;
+use bv_blast::{Circuit, blast, words};
 use clause_search::{Found, search};
 use data_value::{
-    Flat, FlatNode, FlatNodes, Places, Scalar, Widths, Words, are_words, flat_values, is_flat,
+    Flat, FlatNode, FlatNodes, Places, Scalar, Scalars, Widths, Words, are_words, flat_values,
+    is_flat,
 };
 use example_cases::{Failed, is_word, list, number, small};
+use no_memory::NoMemory;
 use sexp_text::{Form, FormKind};
-use shown_terms::Shown;
+use shown_terms::{Shown, operands};
 use sqlite_items::Items;
 use std::alloc::{AllocError, Global};
 
@@ -23,14 +25,14 @@ pub(crate) fn answer(
 ) -> Result<Option<String>, Failed> {
     let answer = match arguments {
         [widths, nodes, root, words] if name == b"flat".as_slice() => {
-            places(alloc, widths, nodes, small(root)?, words)?
+            places(alloc, widths, nodes, root, words)
         }
-        [widths, words] if name == b"words".as_slice() => fitting(alloc, widths, words)?,
-        [widths, nodes] if name == b"solve".as_slice() => solved(alloc, widths, nodes)?,
-        [widths, nodes] if name == b"size".as_slice() => size(alloc, widths, nodes)?,
+        [widths, words] if name == b"words".as_slice() => fitting(alloc, widths, words),
+        [widths, nodes] if name == b"solve".as_slice() => solved(alloc, widths, nodes),
+        [widths, nodes] if name == b"size".as_slice() => size(alloc, widths, nodes),
         _ => return Ok(None),
     };
-    Ok(Some(answer))
+    Ok(Some(answer?))
 }
 
 fn told(alloc: Global, text: &str) -> Result<String, Failed> {
@@ -42,19 +44,41 @@ fn places(
     alloc: Global,
     widths: &Form,
     nodes: &Form,
-    root: usize,
+    root: &Form,
     words: &Form,
 ) -> Result<String, Failed> {
+    let root = small(root)?;
     let nodes = nodes_of(alloc, nodes)?;
-    let Some(flat) = formula(alloc, widths, nodes, root)? else {
-        return told(alloc, "no formula");
-    };
-    let words = words_of(alloc, words)?;
-    if !are_words(flat.widths.as_slice(), words.as_slice()) {
-        return told(alloc, "no words");
+    match formula(alloc, widths, nodes, root)? {
+        Some(flat) => {
+            let text = places_at(alloc, &flat, words);
+            drop(flat);
+            text
+        }
+        None => told(alloc, "no formula"),
     }
-    let values = flat_values(alloc, &flat, &words)?;
-    Ok(values_text(alloc, values.as_slice())?)
+}
+
+// The values of all places of a formula where its inputs have these words.
+fn places_at(alloc: Global, flat: &Flat, words: &Form) -> Result<String, Failed> {
+    let words = words_of(alloc, words)?;
+    let values = values_at(alloc, flat, &words);
+    drop(words);
+    match values? {
+        Some(values) => {
+            let text = values_text(alloc, values.as_slice());
+            drop(values);
+            Ok(text?)
+        }
+        None => told(alloc, "no words"),
+    }
+}
+
+fn values_at(alloc: Global, flat: &Flat, words: &Words) -> Result<Option<Scalars>, NoMemory> {
+    if !are_words(flat.widths.as_slice(), words.as_slice()) {
+        return Ok(None);
+    }
+    Ok(Some(flat_values(alloc, flat, words)?))
 }
 
 fn values_text(alloc: Global, values: &[Scalar]) -> Result<String, AllocError> {
@@ -75,7 +99,11 @@ fn fitting(alloc: Global, widths: &Form, words: &Form) -> Result<String, Failed>
 
 fn solved(alloc: Global, widths: &Form, nodes: &Form) -> Result<String, Failed> {
     match ending(alloc, widths, nodes)? {
-        Some(flat) => model(alloc, &flat),
+        Some(flat) => {
+            let text = model(alloc, &flat);
+            drop(flat);
+            text
+        }
         None => told(alloc, "no formula"),
     }
 }
@@ -83,12 +111,25 @@ fn solved(alloc: Global, widths: &Form, nodes: &Form) -> Result<String, Failed> 
 // Words that make a formula true.
 fn model(alloc: Global, flat: &Flat) -> Result<String, Failed> {
     let circuit = blast(alloc, flat)?;
+    let text = circuit_model(alloc, &circuit);
+    drop(circuit);
+    text
+}
+
+fn circuit_model(alloc: Global, circuit: &Circuit) -> Result<String, Failed> {
     match search(alloc, &circuit.clauses)? {
         Found::Model(model) => {
-            let words = words(alloc, &circuit, &model)?;
-            Ok(words_text(alloc, words.as_slice())?)
+            let found = words(alloc, circuit, &model);
+            drop(model);
+            let words = found?;
+            let text = words_text(alloc, words.as_slice());
+            drop(words);
+            Ok(text?)
         }
-        Found::Refuted(_) => told(alloc, "no model"),
+        Found::Refuted(derivation) => {
+            drop(derivation);
+            told(alloc, "no model")
+        }
     }
 }
 
@@ -103,11 +144,20 @@ fn words_text(alloc: Global, words: &[u64]) -> Result<String, AllocError> {
 }
 
 fn size(alloc: Global, widths: &Form, nodes: &Form) -> Result<String, Failed> {
-    let Some(flat) = ending(alloc, widths, nodes)? else {
-        return told(alloc, "no formula");
-    };
-    let circuit = blast(alloc, &flat)?;
-    Ok(clauses::size(alloc, &circuit.clauses)?)
+    match ending(alloc, widths, nodes)? {
+        Some(flat) => {
+            let circuit = blast(alloc, &flat);
+            drop(flat);
+            circuit_size(alloc, circuit?)
+        }
+        None => told(alloc, "no formula"),
+    }
+}
+
+fn circuit_size(alloc: Global, circuit: Circuit) -> Result<String, Failed> {
+    let text = clauses::size(alloc, &circuit.clauses);
+    drop(circuit);
+    Ok(text?)
 }
 
 // The formula whose root is the last node.

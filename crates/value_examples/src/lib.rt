@@ -6,7 +6,6 @@ mod conditions;
 mod derivation;
 mod formulas;
 mod gates;
-mod operands;
 mod search;
 mod values;
 

@@ -1,8 +1,14 @@
-use Rattle.ground_step.specs.Reach.{run_of}
-use Rattle.ground_step.proofs.Growing.{longer_is, run_more}
+use Rattle.std.proofs.Common.{◌∷◌, [], ◌++◌, ap, sym, ◌∙◌}
+use Rattle.std.proofs.lemmas.Result.{IfOk-weaker}
+use Rattle.ground_step.specs.Steps.{step_of, steps_of}
+use Rattle.ground_step.specs.Reach.{longer_run, run_of, with_each}
+use Rattle.ground_step.proofs.Growing.{with_more}
 use Rattle.ground_step.proofs.reach.with_each.Goals as goal
 
-pub loop-step-preserved : goal.loop-step-preserved
-loop-step-preserved g c =
-    let longer = longer_is c.args.run c.in_ok-longer.longer c.push.new.self c.in_ok-copy.field-0 c.step-item.result c.in_ok-longer.ensures c.in_ok-copy.ensures c.in_ok-push.ensures.ok in
-    run_more (run_of c.args.run) c.loop-step.runs.items c.push-in-loop-step.new.self.items _ c.as_slice-step-items.result.now c.loop-step.step-index c.step-item.result c.in_ok-push-2.ensures.items longer c.loop-step.invariant c.loop-step-test.true c.step-item.is
+pub returns-in-Ok : goal.returns-in-Ok
+returns-in-Ok g c =
+    let p = run_of c.args.run in
+    let copies = rw c.as_slice.ensures at c.in-Ok.ensures in
+    IfOk-weaker c.with_last.result _ _
+    (λ all e. e ∙ ap (λ l. l ++ longer_run p (step_of c.in-Some.last) ∷ []) copies ∙ sym (with_more p c.pop.new.self c.in-Some.last) ∙ ap (λ l. with_each p (steps_of l)) (sym c.in-Some.ensures))
+    c.with_last.ensures

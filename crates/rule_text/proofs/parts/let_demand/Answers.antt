@@ -13,12 +13,12 @@ returns-in_err-pattern-clause-refused c =
     let split = ap (map without_spans) (list_2 _ _ _ c.in-len2.len_at_least c.in-len2.len_below c.pattern-item.is c.source-item.is) in
     λ u demand w. no_pattern _ _ (c.in_err-pattern.ensures.refused (search rules)) (subst LetParts split (let_parts _ demand w))
 
-pub returns-in_err-table-clause-refused : goal.returns-in_err-table-clause-refused
-returns-in_err-table-clause-refused c =
+pub returns-in-Err-clause-refused : goal.returns-in-Err-clause-refused
+returns-in-Err-clause-refused c =
     let split = ap (map without_spans) (list_2 _ _ _ c.in-len2.len_at_least c.in-len2.len_below c.pattern-item.is c.source-item.is) in
-    λ u demand w. no_row_key _ _ _ c.in-Some.ensures.some (c.in_err-table.ensures.refused (search rules)) (subst LetParts split (let_parts _ demand w))
+    λ u demand w. no_row_key _ _ _ c.in-Some.ensures.some (c.in-Err.ensures.refused (search rules)) (subst LetParts split (let_parts _ demand w))
 
-pub returns-in_err-source-clause-refused : goal.returns-in_err-source-clause-refused
-returns-in_err-source-clause-refused c =
+pub returns-in-Err-tree-clause-refused : goal.returns-in-Err-tree-clause-refused
+returns-in-Err-tree-clause-refused c =
     let split = ap (map without_spans) (list_2 _ _ _ c.in-len2.len_at_least c.in-len2.len_below c.pattern-item.is c.source-item.is) in
-    λ u demand w. no_source _ _ (c.behind.ensures.none (search rules)) (c.in_err-source.ensures.refused (search rules)) (subst LetParts split (let_parts _ demand w))
+    λ u demand w. no_source _ _ (c.behind.ensures.none (search rules)) (c.in-Err-tree.ensures.refused (search rules)) (subst LetParts split (let_parts _ demand w))

@@ -10,6 +10,6 @@ pub returns-in_err-demands-clause-refused : goal.returns-in_err-demands-clause-r
 returns-in_err-demands-clause-refused c =
     λ u demands outcome w. let ends = ends_of _ _ _ demands outcome c.in-len2-up.len_at_least c.arrow-item.is c.outcome-item.is w in c.in_err-demands.ensures.refused (search rules) demands record { spelled = ends.0; lawful = w.lawful_demands }
 
-pub returns-in_err-outcome-clause-refused : goal.returns-in_err-outcome-clause-refused
-returns-in_err-outcome-clause-refused c =
-    λ u demands outcome w. let ends = ends_of _ _ _ demands outcome c.in-len2-up.len_at_least c.arrow-item.is c.outcome-item.is w in c.in_err-outcome.ensures.refused (search rules) outcome record { spelled = ends.2; lawful = w.lawful_outcome }
+pub returns-in-Err-clause-refused : goal.returns-in-Err-clause-refused
+returns-in-Err-clause-refused c =
+    λ u demands outcome w. let ends = ends_of _ _ _ demands outcome c.in-len2-up.len_at_least c.arrow-item.is c.outcome-item.is w in c.in-Err.ensures.refused (search rules) outcome record { spelled = ends.2; lawful = w.lawful_outcome }

@@ -1,10 +1,14 @@
-use Rattle.std.proofs.Common.{rules, map, ap}
-use Rattle.sexp_text.specs.Printed.{without_spans}
-use Rattle.rule_text.proofs.Slices.{list_3_up}
-use Rattle.rule_text.proofs.ItemShapes.{rule_parts}
+use Rattle.std.proofs.Common.{rules}
+use Rattle.rule_text.proofs.ItemShapes.{rule_split, rule_written}
 use Rattle.rule_text.proofs.shape.rule_item.Goals as goal
 
 pub returns-in_err-name-clause-refused : goal.returns-in_err-name-clause-refused
 returns-in_err-name-clause-refused c =
-    let all = ap (map without_spans) (list_3_up _ _ _ _ c.in-len3-up.len_at_least c.name-item.is c.variables-item.is c.head-item.is) in
-    λ u i w. let parts = rule_parts _ i w in let whole = parts.5 in c.in_err-name.ensures.refused (search rules) parts.0 cc
+    λ u i w. let parts = rule_split _ _ _ _ c.in-len3-up.len_at_least c.name-item.is c.variables-item.is c.head-item.is i w in c.in_err-name.ensures.refused (search rules) parts.0 parts.2
+
+pub returns-in-Err-clause-refused : goal.returns-in-Err-clause-refused
+returns-in-Err-clause-refused c =
+    λ u i w. let parts = rule_split _ _ _ _ c.in-len3-up.len_at_least c.name-item.is c.variables-item.is c.head-item.is i w in c.in-Err.ensures.refused (search rules) parts.1 parts.3
+
+pub returns-in-Ok-clause-ok : goal.returns-in-Ok-clause-ok
+returns-in-Ok-clause-ok c = rule_written _ _ _ _ c.in-len3-up.len_at_least c.name-item.is c.variables-item.is c.head-item.is _ _ c.in_ok-name.ensures.ok c.in-Ok.ensures.ok

@@ -1,7 +1,7 @@
-use Rattle.std.proofs.Common.{rules, map, ap, arith}
+use Rattle.std.proofs.Common.{rules, arith}
 use Rattle.sexp_text.specs.Printed.{without_spans}
 use Rattle.rule_text.proofs.Slices.{list_2_up, length_of}
-use Rattle.rule_text.proofs.TreeShapes.{map_written, map_spelled, map_parts}
+use Rattle.rule_text.proofs.TreeShapes.{map_written, map_spelled, map_parts, map_split}
 use Rattle.rule_text.proofs.tree.map_tree.Goals as goal
 
 pub returns-then-eq-clause-refused : goal.returns-then-eq-clause-refused
@@ -12,18 +12,15 @@ returns-in_default-clause-refused c = λ _ tree w. let parts = map_parts _ _ tre
 
 pub returns-in_default-number-clause-refused : goal.returns-in_default-number-clause-refused
 returns-in_default-number-clause-refused c =
-    let all = ap (map without_spans) (list_2_up _ _ _ c.in-len2-up.len_at_least c.key-item.is c.word-item.is) in
-    λ _ tree w. let parts = map_parts _ _ tree w in let whole = parts.3 in c.in_default-number.ensures.other (search rules) parts.0 cc
+    λ _ tree w. let parts = map_split _ _ _ _ tree c.in-len2-up.len_at_least c.key-item.is c.word-item.is w in c.in_default-number.ensures.other (search rules) parts.0 parts.3
 
 pub returns-in_default-number-2-clause-refused : goal.returns-in_default-number-2-clause-refused
 returns-in_default-number-2-clause-refused c =
-    let all = ap (map without_spans) (list_2_up _ _ _ c.in-len2-up.len_at_least c.key-item.is c.word-item.is) in
-    λ _ tree w. let parts = map_parts _ _ tree w in let whole = parts.3 in c.in_default-number-2.ensures.other (search rules) parts.1 cc
+    λ _ tree w. let parts = map_split _ _ _ _ tree c.in-len2-up.len_at_least c.key-item.is c.word-item.is w in c.in_default-number-2.ensures.other (search rules) parts.1 parts.4
 
 pub returns-in_err-entries-clause-refused : goal.returns-in_err-entries-clause-refused
 returns-in_err-entries-clause-refused c =
-    let all = ap (map without_spans) (list_2_up _ _ _ c.in-len2-up.len_at_least c.key-item.is c.word-item.is) in
-    λ u tree w. let parts = map_parts _ _ tree w in let whole = parts.3 in c.in_err-entries.ensures.refused (search rules) parts.2 cc
+    λ u tree w. let parts = map_split _ _ _ _ tree c.in-len2-up.len_at_least c.key-item.is c.word-item.is w in c.in_err-entries.ensures.refused (search rules) parts.2 parts.5
 
 pub returns-clause-ok : goal.returns-clause-ok
 returns-clause-ok c =

@@ -12,6 +12,6 @@ no_keys (t ∷ more) = ap (λ ks. [] ∷ ks) (no_keys more)
 
 pub invariant_of-result : goal.invariant_of-result
 invariant_of-result g c = (
-  ap (map (λ (rows : List Row). map (λ r. r.key) rows)) c.in_ok-no_row_lists.ensures ∙ no_keys _ ∙ sym c.in_ok-no_key_tables.ensures,
-  ap length c.in_ok-no_row_lists.ensures ∙ length-map _ _ ∙ ap length (c.as_slice-tables.ensures ∙ c.tables.ensures.value) ∙ ap (λ (s : System). length s.tables) (sym c.in_ok-new.ensures),
+  ap (map (λ (rows : List Row). map (λ r. r.key) rows)) c.in-Ok.ensures.rows ∙ no_keys _ ∙ sym c.in-Ok.ensures.keys,
+  ap length c.in-Ok.ensures.rows ∙ length-map _ _ ∙ ap length (c.as_slice.ensures ∙ c.tables.ensures.value) ∙ ap (λ (s : System). length s.tables) (sym c.in_ok-reader.ensures),
 )

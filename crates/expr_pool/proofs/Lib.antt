@@ -1,0 +1,4 @@
+pub mod KeyLemmas
+pub mod Grown
+pub mod Fresh
+pub mod Meanings

@@ -1,0 +1,90 @@
+//! What is asked of a node, over any domain with variables.
+ghost use Rattle.std.specs.Prelude.{IsTrue};
+ghost use Rattle.data_value.specs.Nodes.{AllValid};
+
+use data_value::{Symbolic, View};
+use example_cases::{Failed, is_word, small};
+use sexp_text::Form;
+use shown_terms::{Shown, operator, scalar, sort, value};
+use sort_term::Sort;
+use std::alloc::{AllocError, Global};
+
+/// What is answered; None where nothing of this kind is asked.
+pub(crate) fn answer<D: Symbolic>(
+    alloc: Global,
+    d: &D,
+    nodes: &[D::Node],
+    ask: &[Form],
+) -> Result<Option<String>, Failed>
+    requires { AllValid (D.look d.now) nodes.now }
+{
+    let [kind, place] = ask else {
+        return Ok(None);
+    };
+    if !is_asked(kind) {
+        return Ok(None);
+    }
+    let place = small(place)?;
+    if nodes.len() <= place {
+        return Err(Failed::NoCall);
+    }
+    Ok(Some(told(alloc, d, &nodes[place], kind)?))
+}
+
+fn is_asked(kind: &Form) -> bool {
+    let kinds: [&[u8]; 4] = [b"sort", b"known", b"id", b"shows"];
+    kinds.iter().any(|word| is_word(kind, word))
+}
+
+fn told<D: Symbolic>(
+    alloc: Global,
+    d: &D,
+    node: &D::Node,
+    kind: &Form,
+) -> Result<String, AllocError>
+    requires { IsTrue (D.look d.now node.now).valid }
+{
+    let mut out = Shown::new(alloc);
+    if is_word(kind, b"sort") {
+        sort(&mut out, Sort::Plain(d.sort(node)))?;
+    } else if is_word(kind, b"known") {
+        put_known(&mut out, d, node)?;
+    } else if is_word(kind, b"id") {
+        put_id(&mut out, d, node)?;
+    } else {
+        put_shown(&mut out, d, node)?;
+    }
+    Ok(out.into_text())
+}
+
+fn put_known<D: Symbolic>(out: &mut Shown, d: &D, node: &D::Node) -> Result<(), AllocError>
+    requires { IsTrue (D.look d.now node.now).valid }
+{
+    match d.known(node) {
+        Some(known) => scalar(out, known),
+        None => out.put("none"),
+    }
+}
+
+fn put_id<D: Symbolic>(out: &mut Shown, d: &D, node: &D::Node) -> Result<(), AllocError>
+    requires { IsTrue (D.look d.now node.now).valid }
+{
+    match d.id(node) {
+        Some(id) => out.place("", id),
+        None => out.put("none"),
+    }
+}
+
+// A variable, a value, or an operator and how many arguments it has.
+fn put_shown<D: Symbolic>(out: &mut Shown, d: &D, node: &D::Node) -> Result<(), AllocError>
+    requires { IsTrue (D.look d.now node.now).valid }
+{
+    match d.view(node) {
+        View::Variable(index) => out.place("variable ", index),
+        View::Constant(known) => value(out, known),
+        View::Apply(op, args) => {
+            operator(out, op)?;
+            out.place(") of ", args.len())
+        }
+    }
+}

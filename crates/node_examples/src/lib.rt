@@ -1,0 +1,33 @@
+//! Calls of the layers on nodes, over a pool and over trees, as the program of their examples runs them. A case makes nodes over variables
+//! of some sorts, `(pool (SORT ..) (NODE ..) ASK)` or the same with `trees`, where a node is `(var INDEX)`, `(const VALUE)`, or an operator
+//! at earlier nodes by their places, as `(add 0 1)`, and asks one thing. Over both: `(sort PLACE)`, `(known PLACE)`, `(id PLACE)` and `(shows
+//! PLACE)`. Over a pool `(len)`, and `(values VALUE ..)` for the meanings of all nodes. Over trees `(value PLACE VALUE ..)`, and
+//! `(substitute PLACE PLACE ..)` for a tree with others in the place of its variables. `(chain COUNT)` makes a chain of so many additions in
+//! a pool, and takes its values.
+#![tactic(auto)]
+
+mod asked;
+mod chain;
+mod making;
+mod pools;
+mod trees;
+mod valuations;
+
+use example_cases::{Failed, list, small};
+use sexp_text::Form;
+use std::alloc::Global;
+
+/// What the call with this name answers, whose arguments are forms alone; None where there is no such call.
+pub fn answer(alloc: Global, name: &[u8], arguments: &[Form]) -> Result<Option<String>, Failed> {
+    let answer = match arguments {
+        [sorts, nodes, ask] if name == b"pool".as_slice() => {
+            pools::answer(alloc, list(sorts)?, list(nodes)?, list(ask)?)?
+        }
+        [sorts, nodes, ask] if name == b"trees".as_slice() => {
+            trees::answer(alloc, list(sorts)?, list(nodes)?, list(ask)?)?
+        }
+        [count] if name == b"chain".as_slice() => chain::answer(alloc, small(count)?)?,
+        _ => return Ok(None),
+    };
+    Ok(Some(answer))
+}

@@ -1,0 +1,129 @@
+//! What is asked of trees.
+ghost use Rattle.std.specs.Prelude.{◌≡◌, IfOk, map, true};
+ghost use Rattle.data_value.specs.Nodes.{AllValid};
+ghost use Rattle.expr_tree.specs.Trees.{expr_sort, judged, tree_look};
+
+use crate::valuations::valuation;
+use crate::{asked, making};
+use data_value::{DataSort, Domain, Symbolic, same_sort};
+use example_cases::{Failed, is_word, small};
+use expr_tree::{Expr, Exprs, Trees, substitute, value};
+use sexp_text::Form;
+use shown_terms::{Shown, operator, value as put_value};
+use sqlite_items::Items;
+use std::alloc::{AllocError, Global};
+
+/// What trees over these variables answer.
+pub(crate) fn answer(
+    alloc: Global,
+    sorts: &[Form],
+    forms: &[Form],
+    ask: &[Form],
+) -> Result<String, Failed> {
+    let mut trees = Trees::new(alloc);
+    making::declare(&mut trees, sorts)?;
+    let nodes = making::made(alloc, &mut trees, forms)?;
+    match asked::answer(alloc, &trees, nodes.as_slice(), ask)? {
+        Some(answer) => Ok(answer),
+        None => of_one(alloc, &trees, nodes.as_slice(), ask),
+    }
+}
+
+// What is asked of one tree.
+fn of_one(alloc: Global, trees: &Trees, nodes: &[Expr], ask: &[Form]) -> Result<String, Failed>
+    requires { AllValid (tree_look trees.now.variables.items) nodes.now }
+{
+    let [kind, place, forms @ ..] = ask else {
+        return Err(Failed::NoCall);
+    };
+    let place = small(place)?;
+    if nodes.len() <= place {
+        return Err(Failed::NoCall);
+    }
+    if is_word(kind, b"value") {
+        return meaning(alloc, trees, &nodes[place], forms);
+    }
+    if is_word(kind, b"substitute") {
+        return replaced(alloc, trees, nodes, &nodes[place], forms);
+    }
+    Err(Failed::NoCall)
+}
+
+fn meaning(alloc: Global, trees: &Trees, tree: &Expr, forms: &[Form]) -> Result<String, Failed>
+    requires { (judged trees.now.variables.items tree.now).0 ≡ true }
+{
+    let valuation = valuation(alloc, trees.sorts(), forms)?;
+    let mut out = Shown::new(alloc);
+    put_value(&mut out, &value(alloc, tree, &valuation)?)?;
+    Ok(out.into_text())
+}
+
+fn replaced(
+    alloc: Global,
+    trees: &Trees,
+    nodes: &[Expr],
+    tree: &Expr,
+    forms: &[Form],
+) -> Result<String, Failed>
+    requires nodes { AllValid (tree_look trees.now.variables.items) nodes.now }
+    requires tree { (judged trees.now.variables.items tree.now).0 ≡ true }
+{
+    let by = in_place(alloc, trees, nodes, forms)?;
+    let mut out = Shown::new(alloc);
+    put_tree(&mut out, &substitute(alloc, tree, &by)?)?;
+    Ok(out.into_text())
+}
+
+// The trees at these places, one of the sort of each variable.
+fn in_place(alloc: Global, trees: &Trees, nodes: &[Expr], forms: &[Form]) -> Result<Exprs, Failed>
+    requires { AllValid (tree_look trees.now.variables.items) nodes.now }
+    ensures { IfOk result (λ by. map expr_sort by ≡ trees.now.variables.items) }
+{
+    let sorts = trees.sorts();
+    if sorts.len() != forms.len() {
+        return Err(Failed::NoCall);
+    }
+    let mut by = Items::new(alloc);
+    for place in 0..sorts.len() {
+        by.push(of_sort(trees, nodes, small(&forms[place])?, sorts[place])?)?;
+    }
+    Ok(by)
+}
+
+// A copy of the tree at a place, which has this sort.
+fn of_sort(trees: &Trees, nodes: &[Expr], place: usize, sort: DataSort) -> Result<Expr, Failed>
+    requires { AllValid (tree_look trees.now.variables.items) nodes.now }
+    ensures { IfOk result (λ tree. expr_sort tree ≡ sort) }
+{
+    if nodes.len() <= place {
+        return Err(Failed::NoCall);
+    }
+    let tree = &nodes[place];
+    if !same_sort(trees.sort(tree), sort) {
+        return Err(Failed::NoCall);
+    }
+    Ok(trees.copy(tree)?)
+}
+
+#[cycle(tree)]
+fn put_tree(out: &mut Shown, tree: &Expr) -> Result<(), AllocError> {
+    match tree {
+        Expr::Variable { index, .. } => out.place("x", *index),
+        Expr::Constant(known) => put_value(out, known),
+        Expr::Apply { op, args, .. } => {
+            operator(out, *op)?;
+            put_trees(out, args.as_slice())?;
+            out.put(")")
+        }
+    }
+}
+
+// The trees, each behind a space.
+#[cycle(tree)]
+fn put_trees(out: &mut Shown, trees: &[Expr]) -> Result<(), AllocError> {
+    for tree in trees {
+        out.put(" ")?;
+        put_tree(out, tree)?;
+    }
+    Ok(())
+}
