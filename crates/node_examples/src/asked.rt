@@ -1,9 +1,11 @@
 //! What is asked of a node, over any domain with variables.
 ghost use Rattle.std.specs.Prelude.{IsTrue};
 ghost use Rattle.data_value.specs.Nodes.{AllValid};
+ghost use Rattle.node_list.specs.Listed.{AreLines};
 
 use data_value::{Symbolic, View};
 use example_cases::{Failed, is_word, small};
+use node_list::{Line, Made, listed};
 use sexp_text::Form;
 use shown_terms::{Shown, operator, scalar, sort, value};
 use sort_term::Sort;
@@ -32,16 +34,11 @@ pub(crate) fn answer<D: Symbolic>(
 }
 
 fn is_asked(kind: &Form) -> bool {
-    let kinds: [&[u8]; 4] = [b"sort", b"known", b"id", b"shows"];
+    let kinds: [&[u8]; 5] = [b"sort", b"known", b"id", b"shows", b"list"];
     kinds.iter().any(|word| is_word(kind, word))
 }
 
-fn told<D: Symbolic>(
-    alloc: Global,
-    d: &D,
-    node: &D::Node,
-    kind: &Form,
-) -> Result<String, AllocError>
+fn told<D: Symbolic>(alloc: Global, d: &D, node: &D::Node, kind: &Form) -> Result<String, Failed>
     requires { IsTrue (D.look d.now node.now).valid }
 {
     let mut out = Shown::new(alloc);
@@ -51,6 +48,8 @@ fn told<D: Symbolic>(
         put_known(&mut out, d, node)?;
     } else if is_word(kind, b"id") {
         put_id(&mut out, d, node)?;
+    } else if is_word(kind, b"list") {
+        put_list(alloc, &mut out, d, node)?;
     } else {
         put_shown(&mut out, d, node)?;
     }
@@ -87,4 +86,48 @@ fn put_shown<D: Symbolic>(out: &mut Shown, d: &D, node: &D::Node) -> Result<(), 
             out.place(") of ", args.len())
         }
     }
+}
+
+// The lines of a node, which name earlier ones by their places.
+fn put_list<D: Symbolic>(
+    alloc: Global,
+    out: &mut Shown,
+    d: &D,
+    node: &D::Node,
+) -> Result<(), Failed>
+    requires { IsTrue (D.look d.now node.now).valid }
+{
+    let lines = listed(alloc, d, node)?;
+    let put = put_lines(out, d, lines.as_slice());
+    drop(lines);
+    Ok(put?)
+}
+
+fn put_lines<D: Symbolic>(out: &mut Shown, d: &D, lines: &[Line<D::Node>]) -> Result<(), AllocError>
+    requires { AreLines (D.look d.now) lines.now }
+{
+    for line in lines {
+        out.part("; ")?;
+        put_line(out, d, line)?;
+    }
+    Ok(())
+}
+
+fn put_line<D: Symbolic>(out: &mut Shown, d: &D, line: &Line<D::Node>) -> Result<(), AllocError>
+    requires { IsTrue (D.look d.now line.now.node).valid }
+{
+    match &line.made {
+        Made::Leaf => put_shown(out, d, &line.node),
+        Made::Apply(op, places) => {
+            operator(out, *op)?;
+            put_places(out, places.as_slice())
+        }
+    }
+}
+
+fn put_places(out: &mut Shown, places: &[usize]) -> Result<(), AllocError> {
+    for place in places {
+        out.place(" ", *place)?;
+    }
+    out.put(")")
 }

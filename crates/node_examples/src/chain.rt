@@ -7,11 +7,12 @@ use crate::valuations::fits;
 use data_value::{DataSort, Op, Scalar, Symbolic, Valuation, Value};
 use example_cases::Failed;
 use expr_pool::Pool;
+use node_list::listed;
 use shown_terms::{Shown, value};
 use sqlite_items::Items;
 use std::alloc::Global;
 
-/// How many nodes a chain has in a pool, and what its last one means where the variable is 1. The chain begins with a variable of 32 bits and
+/// How many nodes a chain has in a pool, how many lines its last one has, and what that means where the variable is 1. The chain begins with a variable of 32 bits and
 /// the word 1, and each further node is the sum of the two before it.
 pub(crate) fn answer(alloc: Global, count: usize) -> Result<String, Failed> {
     let mut pool = Pool::new(alloc)?;
@@ -19,7 +20,8 @@ pub(crate) fn answer(alloc: Global, count: usize) -> Result<String, Failed> {
     let last = chain(alloc, &mut pool, count)?;
     let mut out = Shown::new(alloc);
     out.place("", pool.len())?;
-    out.put(" nodes, ")?;
+    out.place(" nodes, ", line_count(alloc, &pool, last)?)?;
+    out.put(" lines, ")?;
     put_meaning(alloc, &mut out, &pool, last)?;
     Ok(out.into_text())
 }
@@ -39,6 +41,13 @@ fn chain(alloc: Global, pool: &mut Pool, count: usize) -> Result<usize, Failed>
 
 fn one() -> Scalar {
     Scalar::Bits { width: 32, bits: 1 }
+}
+
+fn line_count(alloc: Global, pool: &Pool, node: usize) -> Result<usize, Failed>
+    requires { IsTrue (pool_look pool.now.nodes.keys node).valid }
+{
+    let lines = listed(alloc, pool, &node)?;
+    Ok(lines.len())
 }
 
 fn put_meaning(alloc: Global, out: &mut Shown, pool: &Pool, node: usize) -> Result<(), Failed> {
