@@ -34,7 +34,7 @@ pub(crate) fn answer<D: Symbolic>(
 }
 
 fn is_asked(kind: &Form) -> bool {
-    let kinds: [&[u8]; 5] = [b"sort", b"known", b"id", b"shows", b"list"];
+    let kinds: [&[u8]; 6] = [b"sort", b"known", b"copy", b"id", b"shows", b"list"];
     kinds.iter().any(|word| is_word(kind, word))
 }
 
@@ -46,6 +46,8 @@ fn told<D: Symbolic>(alloc: Global, d: &D, node: &D::Node, kind: &Form) -> Resul
         sort(&mut out, Sort::Plain(d.sort(node)))?;
     } else if is_word(kind, b"known") {
         put_known(&mut out, d, node)?;
+    } else if is_word(kind, b"copy") {
+        put_copy(&mut out, d, node)?;
     } else if is_word(kind, b"id") {
         put_id(&mut out, d, node)?;
     } else if is_word(kind, b"list") {
@@ -63,6 +65,16 @@ fn put_known<D: Symbolic>(out: &mut Shown, d: &D, node: &D::Node) -> Result<(), 
         Some(known) => scalar(out, known),
         None => out.put("none"),
     }
+}
+
+// What a copy of the node shows and is known as.
+fn put_copy<D: Symbolic>(out: &mut Shown, d: &D, node: &D::Node) -> Result<(), Failed>
+    requires { IsTrue (D.look d.now node.now).valid }
+{
+    let copy = d.copy(node)?;
+    put_shown(out, d, &copy)?;
+    out.put(", known as ")?;
+    Ok(put_known(out, d, &copy)?)
 }
 
 fn put_id<D: Symbolic>(out: &mut Shown, d: &D, node: &D::Node) -> Result<(), AllocError>
