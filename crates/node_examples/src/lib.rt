@@ -1,13 +1,15 @@
 //! Calls of the layers on nodes, over a pool and over trees, as the program of their examples runs them. A case makes nodes over
-//! variables of some sorts, `(pool (SORT ..) (NODE ..) ASK)` or the same with `trees`, where a node is `(var INDEX)`, `(const VALUE)`, or an
-//! operator at earlier nodes by their places, as `(add 0 1)`, and asks one thing. Over both: `(sort PLACE)`, `(known PLACE)`, `(id PLACE)`,
+//! variables of some sorts, `(pool (SORT ..) (NODE ..) ASK)` or the same with `trees`, where a node is `(var INDEX)`, `(const VALUE)`, an
+//! operator at earlier nodes by their places, as `(add 0 1)`, or a condition: `(flag TRUTH)`, `(negation PLACE)`, `(both PLACE PLACE)`,
+//! `(either PLACE PLACE)`, `(equal PLACE PLACE)`, `(all PLACE ..)`. It asks one thing. Over both: `(sort PLACE)`, `(known PLACE)`, `(id PLACE)`,
 //! `(shows PLACE)`, `(copy PLACE)` for what a copy shows, and `(list PLACE)` for the lines of a node. Over a pool `(len)`, and `(values VALUE ..)`
-//! for the meanings of all nodes. Over trees `(value PLACE VALUE ..)`, and `(substitute PLACE PLACE ..)` for a tree with others in the place of
-//! its variables. `(chain COUNT)` makes a chain of so many additions in a pool, lists its last node, and takes its values.
+//! for the meanings of all nodes. Over trees `(value PLACE VALUE ..)`, `(substitute PLACE PLACE ..)` for a tree with others in the place of
+//! its variables, and `(substituted PLACE (PLACE ..) VALUE ..)` for the value of that. `(chain COUNT)` makes a chain of so many additions in a pool, lists its last node, and takes its values.
 #![tactic(auto)]
 
 mod asked;
 mod chain;
+mod joining;
 mod making;
 mod pools;
 mod trees;

@@ -2,6 +2,8 @@
 ghost use Rattle.std.specs.Prelude.{◌≡◌, IfOk, IsTrue};
 ghost use Rattle.data_value.specs.Nodes.{AllValid, Extends, sorts_of};
 
+use crate::joining::{is_joining, joined};
+use data_value::conditions::flag;
 use data_value::{DataSort, Op, Symbolic, Value, is_sort, is_value, sort_of};
 use example_cases::{Failed, is_word, list, small};
 use no_memory::NoMemory;
@@ -51,6 +53,11 @@ fn node<D: Symbolic>(
     match list(form)? {
         [kind, index] if is_word(kind, b"var") => variable(d, small(index)?),
         [kind, value] if is_word(kind, b"const") => constant(d, &operands::value(alloc, value)?),
+        [kind, truth] if is_word(kind, b"flag") => Ok(flag(d, operands::truth(truth)?)?),
+        [kind, places @ ..] if is_joining(kind) => {
+            let nodes = copies(alloc, d, before, places)?;
+            joined(alloc, d, kind, nodes.as_slice())
+        }
         [op, places @ ..] => {
             let op = operands::operator(op)?;
             let args = copies(alloc, d, before, places)?;

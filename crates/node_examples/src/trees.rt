@@ -1,12 +1,13 @@
 //! What is asked of trees.
 ghost use Rattle.std.specs.Prelude.{◌≡◌, IfOk, map, true};
+ghost use Rattle.std.specs.List.{list_all};
 ghost use Rattle.data_value.specs.Nodes.{AllValid};
 ghost use Rattle.expr_tree.specs.Trees.{expr_sort, judged, tree_look};
 
 use crate::valuations::valuation;
 use crate::{asked, making};
 use data_value::{DataSort, Domain, Symbolic, same_sort};
-use example_cases::{Failed, is_word, small};
+use example_cases::{Failed, is_word, list, small};
 use expr_tree::{Expr, Exprs, Trees, substitute, value};
 use sexp_text::Form;
 use shown_terms::{Shown, operator, value as put_value};
@@ -46,6 +47,9 @@ fn of_one(alloc: Global, trees: &Trees, nodes: &[Expr], ask: &[Form]) -> Result<
     if is_word(kind, b"substitute") {
         return replaced(alloc, trees, nodes, &nodes[place], forms);
     }
+    if is_word(kind, b"substituted") {
+        return meaning_replaced(alloc, trees, nodes, &nodes[place], forms);
+    }
     Err(Failed::NoCall)
 }
 
@@ -74,10 +78,31 @@ fn replaced(
     Ok(out.into_text())
 }
 
+// What a tree means with others in the place of its variables.
+fn meaning_replaced(
+    alloc: Global,
+    trees: &Trees,
+    nodes: &[Expr],
+    tree: &Expr,
+    forms: &[Form],
+) -> Result<String, Failed>
+    requires nodes { AllValid (tree_look trees.now.variables.items) nodes.now }
+    requires tree { (judged trees.now.variables.items tree.now).0 ≡ true }
+{
+    let [places, values @ ..] = forms else {
+        return Err(Failed::NoCall);
+    };
+    let by = in_place(alloc, trees, nodes, list(places)?)?;
+    let replaced = substitute(alloc, tree, &by)?;
+    drop(by);
+    meaning(alloc, trees, &replaced, values)
+}
+
 // The trees at these places, one of the sort of each variable.
 fn in_place(alloc: Global, trees: &Trees, nodes: &[Expr], forms: &[Form]) -> Result<Exprs, Failed>
     requires { AllValid (tree_look trees.now.variables.items) nodes.now }
-    ensures { IfOk result (λ by. map expr_sort by ≡ trees.now.variables.items) }
+    ensures sorts { IfOk result (λ by. map expr_sort by ≡ trees.now.variables.items) }
+    ensures valid { IfOk result (λ by. list_all (λ p. p.0) (map (judged trees.now.variables.items) by) ≡ true) }
 {
     let sorts = trees.sorts();
     if sorts.len() != forms.len() {
@@ -93,7 +118,8 @@ fn in_place(alloc: Global, trees: &Trees, nodes: &[Expr], forms: &[Form]) -> Res
 // A copy of the tree at a place, which has this sort.
 fn of_sort(trees: &Trees, nodes: &[Expr], place: usize, sort: DataSort) -> Result<Expr, Failed>
     requires { AllValid (tree_look trees.now.variables.items) nodes.now }
-    ensures { IfOk result (λ tree. expr_sort tree ≡ sort) }
+    ensures sort { IfOk result (λ tree. expr_sort tree ≡ sort) }
+    ensures valid { IfOk result (λ tree. (judged trees.now.variables.items tree).0 ≡ true) }
 {
     if nodes.len() <= place {
         return Err(Failed::NoCall);
