@@ -9,7 +9,7 @@ mod terms;
 mod verdicts;
 
 use example_cases::{Failed, Texts};
-pub use loaded::loaded_semantics;
+pub use loaded::{Machine, loaded_machine, loaded_program, loaded_semantics};
 use sexp_text::Form;
 use std::alloc::Global;
 

@@ -34,7 +34,7 @@ fn refused(error: LoadError) -> Failed {
 }
 
 /// A program of a semantics.
-pub(crate) fn loaded_program<S: Side>(
+pub fn loaded_program<S: Side>(
     alloc: Global,
     texts: &Texts,
     semantics: &Semantics<S>,
@@ -97,19 +97,19 @@ pub(crate) fn loaded_points(
 
 /// A semantics, a program of it and a state of it.
 #[derive(Drop)]
-pub(crate) struct Machine {
+pub struct Machine {
     /// The semantics.
-    pub(crate) semantics: Semantics<Left>,
+    pub semantics: Semantics<Left>,
     /// The program.
-    pub(crate) program: Program<Left>,
+    pub program: Program<Left>,
     /// The state.
-    pub(crate) state: State<Left>,
+    pub state: State<Left>,
     /// The program and the state are of the semantics.
-    pub(crate) ghost fits: { IsProgram semantics program × IsState semantics state.term },
+    pub ghost fits: { IsProgram semantics program × IsState semantics state.term },
 }
 
 /// A machine from the texts of its parts.
-pub(crate) fn loaded_machine(
+pub fn loaded_machine(
     alloc: Global,
     texts: &Texts,
     semantics: &Form,

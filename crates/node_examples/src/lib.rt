@@ -16,8 +16,10 @@ mod trees;
 mod valuations;
 
 use example_cases::{Failed, list, small};
+pub use making::{declare, made};
 use sexp_text::Form;
 use std::alloc::Global;
+pub use valuations::{fits, valuation};
 
 /// What the call with this name answers, whose arguments are forms alone; None where there is no such call.
 pub fn answer(alloc: Global, name: &[u8], arguments: &[Form]) -> Result<Option<String>, Failed> {

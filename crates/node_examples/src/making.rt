@@ -12,7 +12,7 @@ use shown_terms::operands;
 use std::alloc::Global;
 
 /// Variables of these sorts, behind those that are there.
-pub(crate) fn declare<D: Symbolic>(d: &mut D, sorts: &[Form]) -> Result<(), Failed> {
+pub fn declare<D: Symbolic>(d: &mut D, sorts: &[Form]) -> Result<(), Failed> {
     for form in sorts {
         let sort = operands::sort(form)?;
         if !is_sort(sort) {
@@ -24,11 +24,7 @@ pub(crate) fn declare<D: Symbolic>(d: &mut D, sorts: &[Form]) -> Result<(), Fail
 }
 
 /// The nodes that forms are.
-pub(crate) fn made<D: Symbolic>(
-    alloc: Global,
-    d: &mut D,
-    forms: &[Form],
-) -> Result<Vec<D::Node>, Failed>
+pub fn made<D: Symbolic>(alloc: Global, d: &mut D, forms: &[Form]) -> Result<Vec<D::Node>, Failed>
     ensures { IfOk result (λ nodes. AllValid (D.look d.new) nodes.items) }
 {
     let mut nodes = Vec::new(alloc);

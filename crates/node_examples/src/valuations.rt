@@ -11,11 +11,7 @@ use sqlite_items::Items;
 use std::alloc::Global;
 
 /// The values that forms are, where they are values of these sorts, in their order.
-pub(crate) fn valuation(
-    alloc: Global,
-    sorts: &[DataSort],
-    forms: &[Form],
-) -> Result<Valuation, Failed>
+pub fn valuation(alloc: Global, sorts: &[DataSort], forms: &[Form]) -> Result<Valuation, Failed>
     ensures { IfOk result (IsValuation sorts.now) }
 {
     let values = values(alloc, forms)?;
@@ -35,7 +31,7 @@ fn values(alloc: Global, forms: &[Form]) -> Result<Valuation, Failed> {
 }
 
 /// Whether there is a value for each of these sorts, and of it.
-pub(crate) fn fits(sorts: &[DataSort], values: &[Value]) -> bool
+pub fn fits(sorts: &[DataSort], values: &[Value]) -> bool
     ensures { IsTrue result → IsValuation sorts.now values.now }
 {
     if sorts.len() != values.len() {
