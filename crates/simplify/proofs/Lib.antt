@@ -1,0 +1,16 @@
+pub mod SimplerLemmas
+pub mod BuiltLemmas
+pub mod ClosedLemmas
+pub mod ValuedLemmas
+pub mod ConstantLemmas
+pub mod RootLemmas
+pub mod PairLemmas
+pub mod ItemLemmas
+pub mod RewriteLemmas
+pub mod ChoiceLemmas
+pub mod WordLemmas
+pub mod SameLemmas
+pub mod ReadLemmas
+pub mod FlagLemmas
+pub mod DivisionLemmas
+pub mod PartLemmas

@@ -1,0 +1,8 @@
+pub mod Pairs
+pub mod Simpler
+pub mod Built
+pub mod Closed
+pub mod Valued
+pub mod Rewrites
+pub mod Past
+pub mod Division

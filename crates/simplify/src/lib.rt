@@ -1,0 +1,18 @@
+//! Nodes with simpler ones in their place, which mean the same.
+#![tactic(auto)]
+
+mod choices;
+mod division;
+mod flags;
+mod lines;
+mod operator;
+mod pair;
+mod parts;
+mod reads;
+mod rewritten;
+mod same;
+mod sums;
+mod values;
+
+pub use lines::{replaced, simplify};
+pub use pair::Pair;
