@@ -2,7 +2,7 @@
 //! literal to resolve on and the number of a clause, as `(START (LITERAL CLAUSE) ..)`.
 ghost use Rattle.std.specs.Prelude.{◌<◌, IfOk, length};
 
-use crate::clauses::{clause_list, clauses, lit};
+use clause_text::{clause_list, clauses, lit};
 use example_cases::{Failed, list, small};
 use refute_check::{
     Checked, Clause, Clauses, Derivation, Link, Lit, Step, Steps, are_below, check,

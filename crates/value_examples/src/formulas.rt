@@ -2,8 +2,7 @@
 //! `(WIDTH BITS)`, an input as `(in INPUT)`, or an operator at places, as `(add 0 1)` and `((extract 7 4) 0)`. `(flat (WIDTH ..) (NODE
 //! ..) ROOT (WORD ..))` answers the values of all places where the inputs have these words, and `(words (WIDTH ..) (WORD ..))` whether
 //! words fit widths. Where the root is the last node, `(solve (WIDTH ..) (NODE ..))` answers words that make it true, found as a model
-//! of the formula's circuit, and `(size (WIDTH ..) (NODE ..))` how large that circuit is.
-use crate::clauses;
+//! of the formula's circuit, `(size (WIDTH ..) (NODE ..))` how large that circuit is, and `(circuit (WIDTH ..) (NODE ..))` its clauses.
 use bv_blast::{Circuit, blast, words};
 use clause_search::{Found, search};
 use data_value::{
@@ -30,6 +29,7 @@ pub(crate) fn answer(
         [widths, words] if name == b"words".as_slice() => fitting(alloc, widths, words),
         [widths, nodes] if name == b"solve".as_slice() => solved(alloc, widths, nodes),
         [widths, nodes] if name == b"size".as_slice() => size(alloc, widths, nodes),
+        [widths, nodes] if name == b"circuit".as_slice() => circuit(alloc, widths, nodes),
         _ => return Ok(None),
     };
     Ok(Some(answer?))
@@ -98,10 +98,10 @@ fn fitting(alloc: Global, widths: &Form, words: &Form) -> Result<String, Failed>
 }
 
 fn solved(alloc: Global, widths: &Form, nodes: &Form) -> Result<String, Failed> {
-    match ending(alloc, widths, nodes)? {
-        Some(flat) => {
-            let text = model(alloc, &flat);
-            drop(flat);
+    match circuit_of(alloc, widths, nodes)? {
+        Some(circuit) => {
+            let text = circuit_model(alloc, &circuit);
+            drop(circuit);
             text
         }
         None => told(alloc, "no formula"),
@@ -109,13 +109,6 @@ fn solved(alloc: Global, widths: &Form, nodes: &Form) -> Result<String, Failed> 
 }
 
 // Words that make a formula true.
-fn model(alloc: Global, flat: &Flat) -> Result<String, Failed> {
-    let circuit = blast(alloc, flat)?;
-    let text = circuit_model(alloc, &circuit);
-    drop(circuit);
-    text
-}
-
 fn circuit_model(alloc: Global, circuit: &Circuit) -> Result<String, Failed> {
     match search(alloc, &circuit.clauses)? {
         Found::Model(model) => {
@@ -144,20 +137,37 @@ fn words_text(alloc: Global, words: &[u64]) -> Result<String, AllocError> {
 }
 
 fn size(alloc: Global, widths: &Form, nodes: &Form) -> Result<String, Failed> {
-    match ending(alloc, widths, nodes)? {
-        Some(flat) => {
-            let circuit = blast(alloc, &flat);
-            drop(flat);
-            circuit_size(alloc, circuit?)
+    match circuit_of(alloc, widths, nodes)? {
+        Some(circuit) => {
+            let text = clause_text::size(alloc, &circuit.clauses);
+            drop(circuit);
+            Ok(text?)
         }
         None => told(alloc, "no formula"),
     }
 }
 
-fn circuit_size(alloc: Global, circuit: Circuit) -> Result<String, Failed> {
-    let text = clauses::size(alloc, &circuit.clauses);
-    drop(circuit);
-    Ok(text?)
+fn circuit(alloc: Global, widths: &Form, nodes: &Form) -> Result<String, Failed> {
+    match circuit_of(alloc, widths, nodes)? {
+        Some(circuit) => {
+            let text = clause_text::text(alloc, &circuit.clauses);
+            drop(circuit);
+            Ok(text?)
+        }
+        None => told(alloc, "no formula"),
+    }
+}
+
+// The circuit of the formula whose root is the last node.
+fn circuit_of(alloc: Global, widths: &Form, nodes: &Form) -> Result<Option<Circuit>, Failed> {
+    match ending(alloc, widths, nodes)? {
+        Some(flat) => {
+            let circuit = blast(alloc, &flat);
+            drop(flat);
+            Ok(Some(circuit?))
+        }
+        None => Ok(None),
+    }
 }
 
 // The formula whose root is the last node.

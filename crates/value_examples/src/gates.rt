@@ -7,7 +7,6 @@
 ghost use Rattle.std.specs.Prelude.{◌≡◌, ◌<◌, ◌≤◌, IfOk, length};
 ghost use Rattle.bit_gates.specs.Meaning.{HasLit, HasLits};
 
-use crate::clauses::{lit, size};
 use bit_gates::{
     Builder, Word, add, and, and_words, below, below_or_equal, concat, constant, constant_word,
     divide, equal, extend_sign, extend_zero, extract, fresh_word, multiply, mux, mux_words, negate,
@@ -15,6 +14,7 @@ use bit_gates::{
     signed_below_or_equal, subtract, xor, xor_words,
 };
 use clause_search::{Found, search};
+use clause_text::{lit, size};
 use data_value::{Op, fits_width};
 use example_cases::{Failed, is_word, number, small};
 use no_memory::NoMemory;

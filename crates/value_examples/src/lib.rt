@@ -1,7 +1,6 @@
 //! Calls of the layers on values, formulas, gates and clauses, as the program of their examples runs them.
 #![tactic(auto)]
 
-mod clauses;
 mod conditions;
 mod derivation;
 mod formulas;

@@ -1,7 +1,7 @@
 //! Calls of `clause_search::search`, with a look at the model or the check of the steps that it answers. `(search CLAUSE ..)` is over
 //! the variables that stand in the clauses, and `(search-over COUNT (CLAUSE ..))` over so many; `(model CLAUSE ..)` answers the model.
-use crate::clauses::{clause_list, clauses, clauses_over};
 use clause_search::{Found, search};
+use clause_text::{clause_list, clauses, clauses_over};
 use example_cases::{Failed, list, small};
 use refute_check::{Checked, Clauses, Lit, check};
 use sexp_text::Form;

@@ -1,4 +1,6 @@
 //! Clauses from forms. A clause is a list of literals, each the number of a variable, or `(not NUMBER)`.
+#![tactic(auto)]
+
 use example_cases::{Failed, is_word, list, small};
 use refute_check::{Clause, ClauseList, Clauses, Lit, are_below};
 use sexp_text::{Form, FormKind};
@@ -6,14 +8,14 @@ use sqlite_items::Items;
 use std::alloc::{AllocError, Global};
 
 /// The clauses that the forms are, over no more variables than they have.
-pub(crate) fn clauses(alloc: Global, forms: &[Form]) -> Result<Clauses, Failed> {
+pub fn clauses(alloc: Global, forms: &[Form]) -> Result<Clauses, Failed> {
     let list = clause_list(alloc, forms)?;
     let vars = variable_count(&list);
     clauses_over(vars, list)
 }
 
 /// The clauses over so many variables.
-pub(crate) fn clauses_over(vars: usize, list: ClauseList) -> Result<Clauses, Failed> {
+pub fn clauses_over(vars: usize, list: ClauseList) -> Result<Clauses, Failed> {
     if !are_below(vars, list.as_slice()) {
         return Err(Failed::NoCall);
     }
@@ -21,13 +23,13 @@ pub(crate) fn clauses_over(vars: usize, list: ClauseList) -> Result<Clauses, Fai
 }
 
 /// How many variables and clauses there are.
-pub(crate) fn size(alloc: Global, clauses: &Clauses) -> Result<String, AllocError> {
+pub fn size(alloc: Global, clauses: &Clauses) -> Result<String, AllocError> {
     let (vars, count) = (clauses.vars, clauses.list.len());
     format!(in alloc; "{vars} variables, {count} clauses")
 }
 
 /// The list of clauses that the forms are.
-pub(crate) fn clause_list(alloc: Global, forms: &[Form]) -> Result<ClauseList, Failed> {
+pub fn clause_list(alloc: Global, forms: &[Form]) -> Result<ClauseList, Failed> {
     let mut list: ClauseList = Items::new(alloc);
     for form in forms {
         list.push(clause(alloc, form)?)?;
@@ -44,7 +46,7 @@ fn clause(alloc: Global, form: &Form) -> Result<Clause, Failed> {
 }
 
 /// A literal.
-pub(crate) fn lit(form: &Form) -> Result<Lit, Failed> {
+pub fn lit(form: &Form) -> Result<Lit, Failed> {
     match &form.kind {
         FormKind::List(parts) => Ok(negated(parts.as_slice())?.flip()),
         _ => variable(form),
@@ -75,4 +77,29 @@ fn variable_count(list: &ClauseList) -> usize {
         }
     }
     count
+}
+
+/// The forms of clauses, as they are read.
+pub fn text(alloc: Global, clauses: &Clauses) -> Result<String, AllocError> {
+    let mut text = String::new(alloc);
+    for (place, clause) in clauses.list.as_slice().iter().enumerate() {
+        text.push_str(if place == 0 { "(" } else { " (" })?;
+        put_lits(alloc, &mut text, clause.as_slice())?;
+        text.push_str(")")?;
+    }
+    Ok(text)
+}
+
+fn put_lits(alloc: Global, text: &mut String, lits: &[Lit]) -> Result<(), AllocError> {
+    for (place, lit) in lits.iter().enumerate() {
+        text.push_str(if place == 0 { "" } else { " " })?;
+        let var = lit.var;
+        let lit = if lit.positive {
+            format!(in alloc; "{var}")?
+        } else {
+            format!(in alloc; "(not {var})")?
+        };
+        text.push_str(lit.as_str())?;
+    }
+    Ok(())
 }
