@@ -7,25 +7,37 @@ pub(crate) fn narrow(number: usize) -> u32 {
     u32::try_from(number).unwrap_or(u32::MAX)
 }
 
-/// A literal in one word.
-#[derive(Clone, Copy, Debug, Default)]
+/// A literal in half a word: twice its variable, and one more where it is negative.
+#[derive(Clone, Copy, Debug)]
 pub(crate) struct NarrowLit {
-    var: u32,
-    positive: bool,
+    code: u32,
 }
 
 impl NarrowLit {
     pub(crate) fn new(lit: Lit) -> NarrowLit {
+        let code = narrow(lit.var).saturating_mul(2);
         NarrowLit {
-            var: narrow(lit.var),
-            positive: lit.positive,
+            code: if lit.positive { code } else { code | 1 },
         }
+    }
+
+    /// What stands behind the literals of a clause, and is none of them.
+    pub(crate) fn end() -> NarrowLit {
+        NarrowLit { code: u32::MAX }
+    }
+
+    pub(crate) fn is_end(self) -> bool {
+        self.code == u32::MAX
+    }
+
+    pub(crate) fn is_same(self, other: NarrowLit) -> bool {
+        self.code == other.code
     }
 
     pub(crate) fn lit(self) -> Lit {
         Lit {
-            var: self.var as usize,
-            positive: self.positive,
+            var: (self.code / 2) as usize,
+            positive: self.code % 2 == 0,
         }
     }
 }
