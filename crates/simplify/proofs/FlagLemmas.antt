@@ -1,6 +1,6 @@
 -- Truth values of which something is known, and operators that take back another.
-use Rattle.std.proofs.Common.{arith, ◌≡◌, ℕ, ◌+◌, ◌-◌, ◌^◌, ◌<◌, zero, suc, Bool, IsTrue, List, [], ◌∷◌, Some, sym, ap, ◌∙◌, subst}
-use Rattle.std.proofs.lemmas.List.Elements.{All-head}
+use Rattle.std.proofs.Common.{arith, ◌≡◌, ℕ, ◌+◌, ◌-◌, ◌^◌, ◌<◌, zero, suc, Bool, true, false, not, IsTrue, List, [], ◌∷◌, Some, refl, sym, ap, ◌∙◌, subst}
+use Rattle.std.proofs.lemmas.List.Elements.{All-nil, All-cons, All-head}
 use Rattle.std.proofs.Math.Nat.{mod-eq_of_lt, mod_self}
 use Rattle.data_value.specs.declared.DataSort.{DataSort}
 use Rattle.data_value.specs.declared.DataSort.TheVariants.{Bool as BoolSort, Bits as BitsSort, Map as MapSort}
@@ -8,7 +8,7 @@ use Rattle.data_value.specs.declared.Scalar.TheVariants.{Flag, Bits}
 use Rattle.data_value.specs.declared.Value.{Value}
 use Rattle.data_value.specs.declared.Value.TheVariants.{One}
 use Rattle.data_value.specs.declared.Op.{Op}
-use Rattle.data_value.specs.declared.Op.TheVariants.{Neg}
+use Rattle.data_value.specs.declared.Op.TheVariants.{Neg, Not, Eq}
 use Rattle.data_value.specs.Sorts.{op_sort}
 use Rattle.data_value.specs.Words.{wrap}
 use Rattle.data_value.specs.Values.{IsValueOf}
@@ -17,7 +17,7 @@ use Rattle.data_value.specs.Nodes.{Seen, Apply, IsValuation, IsLawful, AllValid,
 use Rattle.data_value.specs.Views.{IsShown, shown_args, shown_sort, shown_value, shown_size}
 use Rattle.data_value.proofs.NodeLemmas.{means_known}
 use Rattle.simplify.specs.Simpler.{IsSimplerThan}
-use Rattle.simplify.specs.Rewrites.{IsScalarFor, IsKeeping, IsSettling, TakesBack}
+use Rattle.simplify.specs.Rewrites.{AreNoHarder, IsScalarFor, IsKeeping, IsSettling, TakesBack}
 use Rattle.simplify.proofs.RewriteLemmas.{one_size, two_sizes}
 use Rattle.simplify.proofs.SameLemmas.{flag_form, by_word}
 
@@ -76,6 +76,46 @@ module _ {N : Type 0} (f : N → Seen N) (vars : List DataSort) (laws : IsLawful
 
     pub settles_left : IsSettling op q → IsScalarFor vars f op (a ∷ b ∷ []) (Flag q)
     settles_left is = record { means = λ v fits. let p = left_values v fits in p.2 ∙ is.left p.0 }
+
+-- an equality with false is no easier than the negation of the other truth value
+module _ {N : Type 0} (f : N → Seen N) (vars : List DataSort) (laws : IsLawful f vars) (a b : N) (ok_a : IsTrue (f a).valid) (ok_b : IsTrue (f b).valid) where
+  denied : (p : Bool) → One (Flag (not p)) ≡ op_value Eq (One (Flag p) ∷ One (Flag false) ∷ [])
+  denied true = refl
+  denied false = refl
+
+  denied_first : (p : Bool) → One (Flag (not p)) ≡ op_value Eq (One (Flag false) ∷ One (Flag p) ∷ [])
+  denied_first true = refl
+  denied_first false = refl
+
+  pub false_right : (f a).sort ≡ BoolSort → (f b).known ≡ Some (Flag false) → AreNoHarder vars f Eq (a ∷ b ∷ []) Not (a ∷ [])
+  false_right sort known =
+      let second = (means_known f vars laws b ok_b (Flag false) known).0.sort in
+      record {
+        valid = All-cons (λ n. IsTrue (f n).valid) a [] ok_a (All-nil (λ n. IsTrue (f n).valid));
+        sort =
+            ap (λ s. op_sort Not (s ∷ [])) sort
+            ∙ ap (λ s. op_sort Eq (BoolSort ∷ s ∷ [])) second
+            ∙ ap (λ s. op_sort Eq (s ∷ (f b).sort ∷ [])) (sym sort);
+        means = λ v fits.
+            let p = right_values f vars laws Eq a b ok_a ok_b false sort known v fits in
+            ap (λ m. op_value Not (m ∷ [])) p.1 ∙ denied p.0 ∙ sym p.2;
+        small = let p = two_sizes f a b in let q = one_size f a in omega arith;
+      }
+
+  pub false_left : (f b).sort ≡ BoolSort → (f a).known ≡ Some (Flag false) → AreNoHarder vars f Eq (a ∷ b ∷ []) Not (b ∷ [])
+  false_left sort known =
+      let first = (means_known f vars laws a ok_a (Flag false) known).0.sort in
+      record {
+        valid = All-cons (λ n. IsTrue (f n).valid) b [] ok_b (All-nil (λ n. IsTrue (f n).valid));
+        sort =
+            ap (λ s. op_sort Not (s ∷ [])) sort
+            ∙ ap (λ s. op_sort Eq (s ∷ BoolSort ∷ [])) first
+            ∙ ap (λ s. op_sort Eq ((f a).sort ∷ s ∷ [])) (sym sort);
+        means = λ v fits.
+            let p = left_values f vars laws Eq a b ok_a ok_b false known sort v fits in
+            ap (λ m. op_value Not (m ∷ [])) p.1 ∙ denied_first p.0 ∙ sym p.2;
+        small = let p = two_sizes f a b in let q = one_size f b in omega arith;
+      }
 
 -- an operator takes back the one that a node shows
 pub back_simpler : {N : Type 0} (f : N → Seen N) (vars : List DataSort) → IsLawful f vars → (op inner : Op) (a x : N) → IsShown f vars a → (f a).shown ≡ Apply inner (x ∷ []) → TakesBack op inner → (t : Seen N) → t ≡ f x → IsSimplerThan vars f op (a ∷ []) t

@@ -14,3 +14,4 @@ pub mod ReadLemmas
 pub mod FlagLemmas
 pub mod DivisionLemmas
 pub mod PartLemmas
+pub mod AbsorbingLemmas

@@ -23,7 +23,7 @@ use Rattle.data_value.proofs.OpLemmas.{operator_keeps_sort}
 use Rattle.data_value.proofs.TrialLemmas.{trial_fits}
 use Rattle.simplify.proofs.ConstantLemmas.{size_of_constant}
 use Rattle.simplify.specs.Simpler.{IsSimplerThan}
-use Rattle.simplify.specs.Rewrites.{IsScalarFor, IsNoHarderWith, IsNeutral, IsNeutralFirst, IsRewritten, IsWordRewritten}
+use Rattle.simplify.specs.Rewrites.{IsScalarFor, IsNoHarderWith, AreNoHarder, IsNeutral, IsCommutative, IsAbsorbingFirst, IsRewritten, IsWordRewritten}
 use Rattle.simplify.specs.declared.rewritten.Rewritten.{Rewritten}
 use Rattle.simplify.specs.declared.rewritten.Rewritten.TheVariants as rewritten
 
@@ -103,19 +103,15 @@ module _ {N : Type 0} (f : N → Seen N) where
           small = let s = two_sizes a b in omega arith;
         })
 
-    pub neutral_first_simpler : (op : Op) (a b : N) (w y : ℕ) (t : Seen N) → IsTrue (f a).valid → IsTrue (f b).valid → (f b).sort ≡ BitsSort w → (f a).known ≡ Some (Bits w y) → IsNeutralFirst op w y → t ≡ f b → IsSimplerThan vars f op (a ∷ b ∷ []) t
-    neutral_first_simpler op a b w y t ok_a ok_b sort known is same =
-        let first = (means_known f vars laws a ok_a (Bits w y) known).0.sort in
-        subst (IsSimplerThan vars f op (a ∷ b ∷ [])) (sym same) (record {
-          valid = ok_b;
-          sort = ap (λ s. op_sort op ((f a).sort ∷ s ∷ [])) sort ∙ ap (λ s. op_sort op (s ∷ BitsSort w ∷ [])) (sym first) ∙ is.sort ∙ ap Some (sym sort);
-          means = λ v fits.
-              let x = word_form w ((f b).meaning v) (subst (λ s. IsValueOf s ((f b).meaning v)) sort (laws.sorted b ok_b v fits)) in
-              x.is ∙ sym (is.means x.number x.below)
-              ∙ ap (λ m. op_value op (One (Bits w y) ∷ m ∷ [])) (sym x.is)
-              ∙ ap (λ m. op_value op (m ∷ (f b).meaning v ∷ [])) (sym (laws.known a (Bits w y) ok_a known v));
-          small = let s = two_sizes a b in omega arith;
-        })
+    -- with a known word on its left, an operator means the scalar that it gives with this word
+    pub absorbed_first : (op : Op) (a b : N) (w y : ℕ) (c : Scalar) → IsTrue (f a).valid → IsTrue (f b).valid → (f b).sort ≡ BitsSort w → (f a).known ≡ Some (Bits w y) → IsAbsorbingFirst op w y c → IsScalarFor vars f op (a ∷ b ∷ []) c
+    absorbed_first op a b w y c ok_a ok_b sort known is = record {
+      means = λ v fits.
+          let x = word_form w ((f b).meaning v) (subst (λ s. IsValueOf s ((f b).meaning v)) sort (laws.sorted b ok_b v fits)) in
+          ap (λ m. op_value op ((f a).meaning v ∷ m ∷ [])) x.is
+          ∙ ap (λ m. op_value op (m ∷ One (Bits w x.number) ∷ [])) (laws.known a (Bits w y) ok_a known v)
+          ∙ is x.number x.below;
+    }
 
     -- what an operator comes to at a word and a known word
     module _ (op : Op) (a b : N) (w y : ℕ) (ok_a : IsTrue (f a).valid) (ok_b : IsTrue (f b).valid) (sort : (f a).sort ≡ BitsSort w) (known : (f b).known ≡ Some (Bits w y)) (shown : IsShown f vars b) where
@@ -160,6 +156,52 @@ module _ {N : Type 0} (f : N → Seen N) where
       pub word_found : (o : Option (Rewritten N)) → IfSome o (IsWordRewritten f (f a) op w y) → IfSome o (IsRewritten vars f op (a ∷ b ∷ []))
       word_found None h = tt
       word_found (Some r) h = word_rewritten r h
+
+-- what another operator comes to, which is no harder, an operator comes to
+module _ {N : Type 0} (vars : List DataSort) (f : N → Seen N) (op other : Op) (args others : List N) (is : AreNoHarder vars f op args other others) where
+  pub through : (r : Rewritten N) → IsRewritten vars f other others r → IsRewritten vars f op args r
+  through (rewritten.Node n) h = record {
+    valid = h.valid;
+    sort = sym is.sort ∙ h.sort;
+    means = λ v fits. h.means v fits ∙ is.means v fits;
+    small = let p = h.small in let q = is.small in omega arith;
+  }
+  through (rewritten.Known c) h = record { means = λ v fits. sym (is.means v fits) ∙ h.means v fits }
+  through (rewritten.Apply third thirds) h = record {
+    valid = h.valid;
+    sort = h.sort ∙ is.sort;
+    means = λ v fits. h.means v fits ∙ is.means v fits;
+    small = let p = h.small in let q = is.small in omega arith;
+  }
+  through (rewritten.With third n c) h = record {
+    valid = h.valid;
+    scalar = h.scalar;
+    sort = h.sort ∙ is.sort;
+    means = λ v fits. h.means v fits ∙ is.means v fits;
+    small = let p = h.small in let q = is.small in omega arith;
+  }
+
+  pub found_through : (o : Option (Rewritten N)) → IfSome o (IsRewritten vars f other others) → IfSome o (IsRewritten vars f op args)
+  found_through None h = tt
+  found_through (Some r) h = through r h
+
+-- an operator at two words is no harder with them exchanged, where it commutes
+pub turned : {N : Type 0} (f : N → Seen N) (vars : List DataSort) → IsLawful f vars → (op : Op) (a b : N) (w : ℕ) → IsTrue (f a).valid → IsTrue (f b).valid → (f a).sort ≡ BitsSort w → (f b).sort ≡ BitsSort w → IsCommutative op → AreNoHarder vars f op (a ∷ b ∷ []) op (b ∷ a ∷ [])
+turned f vars laws op a b w ok_a ok_b first second commutes = record {
+  valid = All-cons (λ n. IsTrue (f n).valid) b (a ∷ []) ok_b (All-cons (λ n. IsTrue (f n).valid) a [] ok_a (All-nil (λ n. IsTrue (f n).valid)));
+  sort =
+      let e = second ∙ sym first in
+      ap (λ s. op_sort op (s ∷ (f a).sort ∷ [])) e ∙ ap (λ s. op_sort op ((f a).sort ∷ s ∷ [])) (sym e);
+  means = λ v fits.
+      let x = word_form w ((f a).meaning v) (subst (λ s. IsValueOf s ((f a).meaning v)) first (laws.sorted a ok_a v fits)) in
+      let y = word_form w ((f b).meaning v) (subst (λ s. IsValueOf s ((f b).meaning v)) second (laws.sorted b ok_b v fits)) in
+      ap (λ m. op_value op ((f b).meaning v ∷ m ∷ [])) x.is
+      ∙ ap (λ m. op_value op (m ∷ One (Bits w x.number) ∷ [])) y.is
+      ∙ commutes w y.number x.number
+      ∙ ap (λ m. op_value op (One (Bits w x.number) ∷ m ∷ [])) (sym y.is)
+      ∙ ap (λ m. op_value op (m ∷ (f b).meaning v ∷ [])) (sym x.is);
+  small = let p = two_sizes f a b in let q = two_sizes f b a in omega arith;
+}
 
 -- the same of an operator at a node and a scalar, for which a constant was made
 module _ {N : Type 0} (vars others : List DataSort) (f g : N → Seen N) (x : Extends f g) (op : Op) (args : List N) (other : Op) (node : N) (c : Scalar) (is : IsNoHarderWith vars f op args other node c) (constant : N) (made : IsConstant g (One c) constant) (nodes : List N) (alike : AreAlike g nodes (node ∷ constant ∷ [])) where

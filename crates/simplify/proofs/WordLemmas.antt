@@ -8,12 +8,11 @@ use Rattle.data_value.specs.declared.DataSort.{DataSort}
 use Rattle.data_value.specs.declared.DataSort.TheVariants.{Bits as BitsSort}
 use Rattle.data_value.specs.declared.Scalar.TheVariants.{Bits}
 use Rattle.data_value.specs.declared.Value.TheVariants.{One}
-use Rattle.data_value.specs.declared.Op.{Op}
 use Rattle.data_value.specs.declared.Op.TheVariants.{Add, Sub, Mul, Udiv, Urem, BvAnd, BvOr, BvXor, Shl, Lshr, Ashr}
 use Rattle.data_value.specs.Sorts.{same_words_sort}
 use Rattle.data_value.specs.Words.{wrap, quotient, remainder, shift_left, shift_right, shift_signed, top_ones, is_negative}
 use Rattle.std.proofs.Math.Nat.{two-pow-succ}
-use Rattle.simplify.specs.Rewrites.{IsNeutral, IsNeutralFirst, IsCommutative, IsReplacing}
+use Rattle.simplify.specs.Rewrites.{IsNeutral, IsCommutative, IsReplacing}
 use Rattle.data_value.proofs.WordLemmas.{two_to_le}
 
 -- two words of one width are of one width
@@ -81,7 +80,7 @@ lshr_neutral w y pos e = record {
   means = λ x below. ap (λ k. One (Bits w k)) (ap (shift_right w x) e ∙ unmoved_right w x pos);
 }
 
-no_ones : (w : ℕ) → top_ones w 0 ≡ 0
+pub no_ones : (w : ℕ) → top_ones w 0 ≡ 0
 no_ones w = let n : w - 0 ≡ w = omega arith in ap (λ k. 2 ^ w - 2 ^ k) n ∙ (let z : 2 ^ w - 2 ^ w ≡ 0 = omega arith in z)
 
 unmoved_signed : (w x : ℕ) (b : Bool) → 1 ≤ w → (if b then shift_right w x 0 + top_ones w 0 else shift_right w x 0) ≡ x
@@ -108,10 +107,6 @@ or_commutes = λ w x y. ap (λ k. One (Bits w k)) (or_comm x y)
 
 pub xor_commutes : IsCommutative BvXor
 xor_commutes = λ w x y. ap (λ k. One (Bits w k)) (xor_comm x y)
-
--- where the order doesn't matter, what is neutral on the right is neutral on the left
-pub neutral_first : (op : Op) (w y : ℕ) → IsCommutative op → IsNeutral op w y → IsNeutralFirst op w y
-neutral_first op w y commutes is = record { sort = is.sort; means = λ x below. commutes w y x ∙ is.means x below }
 
 -- the exponent of a power of two that is a word
 exponent_below : (w k : ℕ) → 2 ^ k < 2 ^ w → k < w

@@ -6,3 +6,4 @@ pub mod Valued
 pub mod Rewrites
 pub mod Past
 pub mod Division
+pub mod Parts

@@ -1,5 +1,5 @@
 -- What an operator at nodes comes to.
-use Rattle.std.specs.Prelude.{◌≡◌, ◌+◌, ◌<◌, ◌≤◌, ◌^◌, ℕ, Bool, IsTrue, IsSome, List, [], ◌∷◌, Some}
+use Rattle.std.specs.Prelude.{◌≡◌, ◌+◌, ◌<◌, ◌≤◌, ◌^◌, ℕ, Bool, not, IsTrue, IsSome, List, [], ◌∷◌, Some}
 use Rattle.data_value.specs.declared.DataSort.{DataSort}
 use Rattle.data_value.specs.declared.DataSort.TheVariants.{Bool as BoolSort, Bits as BitsSort}
 use Rattle.data_value.specs.declared.Scalar.{Scalar}
@@ -46,11 +46,6 @@ pub record IsNeutral (op : Op) (w y : ℕ) : Type 0 where
   pub sort : op_sort op (BitsSort w ∷ BitsSort w ∷ []) ≡ Some (BitsSort w)
   pub means : (x : ℕ) → x < 2 ^ w → op_value op (One (Bits w x) ∷ One (Bits w y) ∷ []) ≡ One (Bits w x)
 
--- The word y of width w is neutral to an operator on its left.
-pub record IsNeutralFirst (op : Op) (w y : ℕ) : Type 0 where
-  pub sort : op_sort op (BitsSort w ∷ BitsSort w ∷ []) ≡ Some (BitsSort w)
-  pub means : (x : ℕ) → x < 2 ^ w → op_value op (One (Bits w y) ∷ One (Bits w x) ∷ []) ≡ One (Bits w x)
-
 -- An operator gives two words of one width the same in either order.
 abbrev pub IsCommutative : Op → Type 0
 IsCommutative op = (w x y : ℕ) → op_value op (One (Bits w x) ∷ One (Bits w y) ∷ []) ≡ op_value op (One (Bits w y) ∷ One (Bits w x) ∷ [])
@@ -70,6 +65,14 @@ word_at s v = word_of (scalar_of (s.meaning v))
 -- With the word y of width w on its right, an operator gives this scalar at all words of that width.
 abbrev pub IsAbsorbing : Op → ℕ → ℕ → Scalar → Type 0
 IsAbsorbing op w y c = (x : ℕ) → x < 2 ^ w → op_value op (One (Bits w x) ∷ One (Bits w y) ∷ []) ≡ One c
+
+-- With the word y of width w on its left, an operator gives this scalar at all words of that width.
+abbrev pub IsAbsorbingFirst : Op → ℕ → ℕ → Scalar → Type 0
+IsAbsorbingFirst op w y c = (x : ℕ) → x < 2 ^ w → op_value op (One (Bits w y) ∷ One (Bits w x) ∷ []) ≡ One c
+
+-- A comparison gives two words the truth value that another one doesn't give them exchanged.
+abbrev pub IsOpposite : Op → Op → Type 0
+IsOpposite op other = (w x y : ℕ) (p : Bool) → op_value other (One (Bits w y) ∷ One (Bits w x) ∷ []) ≡ One (Flag p) → op_value op (One (Bits w x) ∷ One (Bits w y) ∷ []) ≡ One (Flag (not p))
 
 -- With the word y of width w on its right, an operator gives words of that width what another gives them with z.
 pub record IsReplacing (op : Op) (w y : ℕ) (other : Op) (z : ℕ) : Type 0 where

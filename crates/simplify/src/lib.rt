@@ -1,6 +1,7 @@
 //! Nodes with simpler ones in their place, which mean the same.
 #![tactic(auto)]
 
+mod absorbing;
 mod choices;
 mod division;
 mod flags;

@@ -9,8 +9,8 @@ ghost use Rattle.simplify.specs.Rewrites.{IsRewritten, IsNoHarderWith};
 
 use crate::choices::choice;
 use crate::division::of_division;
-use crate::flags::{behind_flag, beside_flag, taken_back};
-use crate::parts::part;
+use crate::flags::{behind_flag, beside_false, beside_flag, taken_back};
+use crate::parts::{part, unwidened};
 use crate::reads::read;
 use crate::rewritten::Rewritten;
 use crate::same::of_same;
@@ -94,7 +94,9 @@ fn at_one<D: Symbolic>(
     ensures { IfOk result (λ o. IfSome o (IsRewritten (D.variables d.now) (D.look d.now) op (a.now ∷ []))) }
 {
     match op {
-        Op::Extract { hi, lo } => Ok(part(alloc, d, hi, lo, a)?),
+        Op::Extract { hi, lo } => Ok(Some(part(alloc, d, hi, lo, a)?)),
+        Op::Zext(width) => Ok(unwidened(d, op, width, a)?),
+        Op::Sext(width) => Ok(unwidened(d, op, width, a)?),
         _ => Ok(taken_back(d, op, a)?),
     }
 }
@@ -122,6 +124,9 @@ fn at_two<D: Symbolic>(
         return Ok(Some(found));
     }
     if let Some(found) = behind_known(d, op, a, b)? {
+        return Ok(Some(found));
+    }
+    if let Some(found) = beside_false(alloc, d, op, a, b)? {
         return Ok(Some(found));
     }
     if let Some(found) = beside_flag(d, op, a, b)? {

@@ -1,11 +1,12 @@
-//! Operators at two words of which the second is known.
+//! Operators at two words of which one is known.
 ghost use Rattle.std.specs.Prelude.{◌≡◌, ◌≤◌, ◌-◌, ◌^◌, [], ◌∷◌, true, IsSome, IsTrue, IfOk, IfSome};
 ghost use Rattle.data_value.specs.declared.Scalar.TheVariants.{Bits};
 ghost use Rattle.data_value.specs.Sorts.{op_sort};
 ghost use Rattle.data_value.specs.Values.{IsScalar};
 ghost use Rattle.data_value.specs.Nodes.{sorts_of};
-ghost use Rattle.simplify.specs.Rewrites.{IsRewritten, IsWordRewritten, IsAbsorbing, IsReplacing, IsNeutral, IsNeutralFirst, IsCommutative};
+ghost use Rattle.simplify.specs.Rewrites.{IsRewritten, IsWordRewritten, IsReplacing, IsNeutral, IsCommutative};
 
+use crate::absorbing::{absorbed, absorbed_first};
 use crate::rewritten::Rewritten;
 use data_value::{DataSort, NoMemory, Op, Scalar, Symbolic};
 
@@ -48,29 +49,14 @@ fn at_word<D: Symbolic>(
     if is_neutral(op, width, bits) {
         return Ok(Some(Rewritten::Node(d.copy(a)?)));
     }
-    if gives_zero(op, width, bits) {
-        return Ok(Some(Rewritten::Known(Scalar::Bits { width, bits: 0 })));
+    if let Some(scalar) = absorbed(op, width, bits) {
+        return Ok(Some(Rewritten::Known(scalar)));
     }
     match by_power(op, width, bits) {
         Some((other, bits)) => {
             Ok(Some(Rewritten::With(other, d.copy(a)?, Scalar::Bits { width, bits })))
         }
         None => Ok(None),
-    }
-}
-
-// Whether an operator gives zero at all words on the left of this one.
-fn gives_zero(op: Op, width: u8, bits: u64) -> bool
-    requires { IsScalar (Bits width bits) }
-    ensures { result ≡ true → IsAbsorbing op width bits (Bits width 0) }
-{
-    match op {
-        Op::Mul => bits == 0,
-        Op::Urem => bits == 1,
-        Op::BvAnd => bits == 0,
-        Op::Shl => width as u64 <= bits,
-        Op::Lshr => width as u64 <= bits,
-        _ => false,
     }
 }
 
@@ -114,10 +100,15 @@ pub(crate) fn behind_known<D: Symbolic>(
 {
     match (d.known(a), d.sort(b)) {
         (Some(Scalar::Bits { width: other, bits }), DataSort::Bits(width)) => {
-            if width == other && is_neutral_first(op, width, bits) {
-                Ok(Some(Rewritten::Node(d.copy(b)?)))
-            } else {
-                Ok(None)
+            if width != other {
+                return Ok(None);
+            }
+            if is_commutative(op) {
+                return Ok(at_word(d, op, b, width, bits)?);
+            }
+            match absorbed_first(op, width, bits) {
+                Some(scalar) => Ok(Some(Rewritten::Known(scalar))),
+                None => Ok(None),
             }
         }
         _ => Ok(None),
@@ -144,14 +135,6 @@ fn is_neutral(op: Op, width: u8, bits: u64) -> bool
     }
 }
 
-// Whether a word changes no word on the right of an operator.
-fn is_neutral_first(op: Op, width: u8, bits: u64) -> bool
-    requires { IsScalar (Bits width bits) }
-    ensures { result ≡ true → IsNeutralFirst op width bits }
-{
-    is_commutative(op) && is_neutral(op, width, bits)
-}
-
 // Whether an operator at two words gives the same in either order.
 fn is_commutative(op: Op) -> bool
     ensures { result ≡ true → IsCommutative op }
@@ -166,8 +149,8 @@ fn is_commutative(op: Op) -> bool
     }
 }
 
-// The word of a width of which all bits are set.
-fn ones(width: u8) -> u64
+/// The word of a width of which all bits are set.
+pub(crate) fn ones(width: u8) -> u64
     requires { width ≤ 64 }
     ensures { result ≡ 2 ^ width - 1 }
 {
