@@ -30,6 +30,9 @@ impl Calls for Layers {
         if let Some(answer) = node_examples::answer(alloc, name, arguments)? {
             return Ok(answer);
         }
+        if let Some(answer) = decided_formulas::answer(alloc, name, arguments)? {
+            return Ok(answer);
+        }
         if let Some(answer) = symbolic_examples::answer(alloc, texts, name, arguments)? {
             return Ok(answer);
         }

@@ -2,11 +2,11 @@
 ghost use Rattle.std.specs.Prelude.{IfOk, IsTrue};
 ghost use Rattle.expr_pool.specs.Keys.{pool_look};
 
-use crate::making::{applied, constant, variable};
 use crate::valuations::fits;
 use data_value::{DataSort, Op, Scalar, Symbolic, Valuation, Value};
 use example_cases::Failed;
 use expr_pool::Pool;
+use formula_text::{applied, constant, variable};
 use node_list::listed;
 use shown_terms::{Shown, value};
 use sqlite_items::Items;

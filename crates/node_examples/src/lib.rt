@@ -2,16 +2,21 @@
 //! variables of some sorts, `(pool (SORT ..) (NODE ..) ASK)` or the same with `trees`, where a node is `(var INDEX)`, `(const VALUE)`, an
 //! operator at earlier nodes by their places, as `(add 0 1)`, or a condition: `(flag TRUTH)`, `(negation PLACE)`, `(both PLACE PLACE)`,
 //! `(either PLACE PLACE)`, `(equal PLACE PLACE)`, `(all PLACE ..)`. It asks one thing. Over both: `(sort PLACE)`, `(known PLACE)`, `(id PLACE)`,
-//! `(shows PLACE)`, `(copy PLACE)` for what a copy shows, and `(list PLACE)` for the lines of a node. Over a pool `(len)`, and `(values VALUE ..)`
+//! `(shows PLACE)`, `(copy PLACE)` for what a copy shows, `(list PLACE)` for the lines of a node, `(simplify PLACE)` for the simplified
+//! node, `(agrees PLACE)` for whether this means what the node does under all valuations of the variables, which are few and small, and
+//! `(replaced PLACE (PLACE PLACE) ..)` for a node in which the second of each pair stands in the place of the first. Over a pool `(len)`, and `(values VALUE ..)`
 //! for the meanings of all nodes. Over trees `(value PLACE VALUE ..)`, `(substitute PLACE PLACE ..)` for a tree with others in the place of
 //! its variables, and `(substituted PLACE (PLACE ..) VALUE ..)` for the value of that. `(chain COUNT)` makes a chain of so many additions in a pool, lists its last node, and takes its values.
 #![tactic(auto)]
 
+mod agreement;
 mod asked;
 mod chain;
 mod joining;
 mod making;
 mod pools;
+mod simpler;
+mod text;
 mod trees;
 mod valuations;
 

@@ -1,12 +1,12 @@
 //! Nodes from forms, over any domain with variables.
-ghost use Rattle.std.specs.Prelude.{◌≡◌, IfOk, IsTrue};
-ghost use Rattle.data_value.specs.Nodes.{AllValid, Extends, sorts_of};
+ghost use Rattle.std.specs.Prelude.{IfOk, IsTrue};
+ghost use Rattle.data_value.specs.Nodes.{AllValid, Extends};
 
 use crate::joining::{is_joining, joined};
 use data_value::conditions::flag;
-use data_value::{DataSort, Op, Symbolic, Value, is_sort, is_value, sort_of};
+use data_value::{Symbolic, is_sort};
 use example_cases::{Failed, is_word, list, small};
-use no_memory::NoMemory;
+use formula_text::{applied, constant, variable};
 use sexp_text::Form;
 use shown_terms::operands;
 use std::alloc::Global;
@@ -63,57 +63,6 @@ fn node<D: Symbolic>(
     }
 }
 
-/// The node of a variable.
-pub(crate) fn variable<D: Symbolic>(d: &mut D, index: usize) -> Result<D::Node, Failed>
-    ensures extends { Extends (D.look d.old) (D.look d.new) }
-    ensures valid { IfOk result (λ n. IsTrue (D.look d.new n).valid) }
-{
-    if d.sorts().len() <= index {
-        return Err(Failed::NoCall);
-    }
-    Ok(d.variable(index)?)
-}
-
-/// The node of a value.
-pub(crate) fn constant<D: Symbolic>(d: &mut D, value: &Value) -> Result<D::Node, Failed>
-    ensures extends { Extends (D.look d.old) (D.look d.new) }
-    ensures valid { IfOk result (λ n. IsTrue (D.look d.new n).valid) }
-{
-    if !is_value(value) {
-        return Err(Failed::NoCall);
-    }
-    Ok(d.constant(value)?)
-}
-
-/// The node of an operator at nodes whose sorts it takes.
-pub(crate) fn applied<D: Symbolic>(
-    alloc: Global,
-    d: &mut D,
-    op: Op,
-    args: &[D::Node],
-) -> Result<D::Node, Failed>
-    requires { AllValid (D.look d.old) args.now }
-    ensures extends { Extends (D.look d.old) (D.look d.new) }
-    ensures valid { IfOk result (λ n. IsTrue (D.look d.new n).valid) }
-{
-    let sorts = sorts_of(alloc, d, args)?;
-    match sort_of(op, sorts.as_slice()) {
-        Some(_) => Ok(d.apply(op, args)?),
-        None => Err(Failed::NoCall),
-    }
-}
-
-fn sorts_of<D: Symbolic>(alloc: Global, d: &D, nodes: &[D::Node]) -> Result<Vec<DataSort>, NoMemory>
-    requires { AllValid (D.look d.now) nodes.now }
-    ensures { IfOk result (λ sorts. sorts.items ≡ sorts_of (D.look d.now) nodes.now) }
-{
-    let mut sorts = Vec::new(alloc);
-    for node in nodes {
-        sorts.push(d.sort(node))?;
-    }
-    Ok(sorts)
-}
-
 /// Copies of the nodes at these places.
 pub(crate) fn copies<D: Symbolic>(
     alloc: Global,
@@ -131,7 +80,12 @@ pub(crate) fn copies<D: Symbolic>(
     Ok(args)
 }
 
-fn copy_at<D: Symbolic>(d: &D, nodes: &[D::Node], place: usize) -> Result<D::Node, Failed>
+/// A copy of the node at a place.
+pub(crate) fn copy_at<D: Symbolic>(
+    d: &D,
+    nodes: &[D::Node],
+    place: usize,
+) -> Result<D::Node, Failed>
     requires { AllValid (D.look d.now) nodes.now }
     ensures { IfOk result (λ n. IsTrue (D.look d.now n).valid) }
 {

@@ -2,9 +2,10 @@
 ghost use Rattle.data_value.specs.Nodes.{AllValid};
 ghost use Rattle.expr_pool.specs.Keys.{pool_look};
 
+use crate::agreement::Meaning;
 use crate::valuations::valuation;
-use crate::{asked, making};
-use data_value::{Symbolic, Value};
+use crate::{asked, making, simpler};
+use data_value::{Symbolic, Valuation, Value, copy_value};
 use example_cases::{Failed, is_word};
 use expr_pool::Pool;
 use sexp_text::Form;
@@ -23,7 +24,23 @@ pub(crate) fn answer(
     let nodes = making::made(alloc, &mut pool, forms)?;
     match asked::answer(alloc, &pool, nodes.as_slice(), ask)? {
         Some(answer) => Ok(answer),
-        None => of_all(alloc, &pool, ask),
+        None => {
+            if simpler::is_asked(ask) {
+                simpler::answer(alloc, &mut pool, nodes.as_slice(), ask)
+            } else {
+                of_all(alloc, &pool, ask)
+            }
+        }
+    }
+}
+
+impl Meaning for Pool {
+    fn meaning(&self, alloc: Global, node: &usize, valuation: &Valuation) -> Result<Value, Failed> {
+        let values = self.values(valuation)?;
+        match values.get(*node) {
+            Some(value) => Ok(copy_value(alloc, value)?),
+            None => Err(Failed::NoCall),
+        }
     }
 }
 

@@ -4,15 +4,17 @@ ghost use Rattle.std.specs.List.{list_all};
 ghost use Rattle.data_value.specs.Nodes.{AllValid};
 ghost use Rattle.expr_tree.specs.Trees.{expr_sort, judged, tree_look};
 
+use crate::agreement::Meaning;
+use crate::text::tree_text;
 use crate::valuations::valuation;
-use crate::{asked, making};
-use data_value::{DataSort, Domain, Symbolic, same_sort};
+use crate::{asked, making, simpler};
+use data_value::{DataSort, Domain, Symbolic, Valuation, Value, same_sort};
 use example_cases::{Failed, is_word, list, small};
 use expr_tree::{Expr, Exprs, Trees, substitute, value};
 use sexp_text::Form;
-use shown_terms::{Shown, operator, value as put_value};
+use shown_terms::{Shown, value as put_value};
 use sqlite_items::Items;
-use std::alloc::{AllocError, Global};
+use std::alloc::Global;
 
 /// What trees over these variables answer.
 pub(crate) fn answer(
@@ -26,7 +28,19 @@ pub(crate) fn answer(
     let nodes = making::made(alloc, &mut trees, forms)?;
     match asked::answer(alloc, &trees, nodes.as_slice(), ask)? {
         Some(answer) => Ok(answer),
-        None => of_one(alloc, &trees, nodes.as_slice(), ask),
+        None => {
+            if simpler::is_asked(ask) {
+                simpler::answer(alloc, &mut trees, nodes.as_slice(), ask)
+            } else {
+                of_one(alloc, &trees, nodes.as_slice(), ask)
+            }
+        }
+    }
+}
+
+impl Meaning for Trees {
+    fn meaning(&self, alloc: Global, node: &Expr, valuation: &Valuation) -> Result<Value, Failed> {
+        Ok(value(alloc, node, valuation)?)
     }
 }
 
@@ -45,7 +59,8 @@ fn of_one(alloc: Global, trees: &Trees, nodes: &[Expr], ask: &[Form]) -> Result<
         return meaning(alloc, trees, &nodes[place], forms);
     }
     if is_word(kind, b"substitute") {
-        return replaced(alloc, trees, nodes, &nodes[place], forms);
+        let other = replaced(alloc, trees, nodes, &nodes[place], forms)?;
+        return tree_text(alloc, trees, &other);
     }
     if is_word(kind, b"substituted") {
         return meaning_replaced(alloc, trees, nodes, &nodes[place], forms);
@@ -62,20 +77,20 @@ fn meaning(alloc: Global, trees: &Trees, tree: &Expr, forms: &[Form]) -> Result<
     Ok(out.into_text())
 }
 
+// A tree with others in the place of its variables.
 fn replaced(
     alloc: Global,
     trees: &Trees,
     nodes: &[Expr],
     tree: &Expr,
     forms: &[Form],
-) -> Result<String, Failed>
+) -> Result<Expr, Failed>
     requires nodes { AllValid (tree_look trees.now.variables.items) nodes.now }
     requires tree { (judged trees.now.variables.items tree.now).0 ≡ true }
+    ensures { IfOk result (λ other. (judged trees.now.variables.items other).0 ≡ true) }
 {
     let by = in_place(alloc, trees, nodes, forms)?;
-    let mut out = Shown::new(alloc);
-    put_tree(&mut out, &substitute(alloc, tree, &by)?)?;
-    Ok(out.into_text())
+    Ok(substitute(alloc, tree, &by)?)
 }
 
 // What a tree means with others in the place of its variables.
@@ -92,10 +107,8 @@ fn meaning_replaced(
     let [places, values @ ..] = forms else {
         return Err(Failed::NoCall);
     };
-    let by = in_place(alloc, trees, nodes, list(places)?)?;
-    let replaced = substitute(alloc, tree, &by)?;
-    drop(by);
-    meaning(alloc, trees, &replaced, values)
+    let other = replaced(alloc, trees, nodes, tree, list(places)?)?;
+    meaning(alloc, trees, &other, values)
 }
 
 // The trees at these places, one of the sort of each variable.
@@ -129,27 +142,4 @@ fn of_sort(trees: &Trees, nodes: &[Expr], place: usize, sort: DataSort) -> Resul
         return Err(Failed::NoCall);
     }
     Ok(trees.copy(tree)?)
-}
-
-#[cycle(tree)]
-fn put_tree(out: &mut Shown, tree: &Expr) -> Result<(), AllocError> {
-    match tree {
-        Expr::Variable { index, .. } => out.place("x", *index),
-        Expr::Constant(known) => put_value(out, known),
-        Expr::Apply { op, args, .. } => {
-            operator(out, *op)?;
-            put_trees(out, args.as_slice())?;
-            out.put(")")
-        }
-    }
-}
-
-// The trees, each behind a space.
-#[cycle(tree)]
-fn put_trees(out: &mut Shown, trees: &[Expr]) -> Result<(), AllocError> {
-    for tree in trees {
-        out.put(" ")?;
-        put_tree(out, tree)?;
-    }
-    Ok(())
 }

@@ -71,7 +71,8 @@ pub fn map(alloc: Global, form: &Form) -> Result<MapValue, Failed> {
     }
 }
 
-fn zeros(alloc: Global, key: u8, word: u8) -> Result<MapValue, Failed> {
+/// A map of these widths that is zero at every key.
+pub fn zeros(alloc: Global, key: u8, word: u8) -> Result<MapValue, Failed> {
     if 1 <= key && key <= 64 && 1 <= word && word <= 64 {
         Ok(MapValue::zeros(alloc, key, word))
     } else {
@@ -95,7 +96,8 @@ fn put_entry(alloc: Global, map: &MapValue, entry: &Form) -> Result<MapValue, Fa
     }
 }
 
-fn put(alloc: Global, map: &MapValue, key: u64, word: u64) -> Result<MapValue, Failed> {
+/// A map with a word put at a key, where both fit it.
+pub fn put(alloc: Global, map: &MapValue, key: u64, word: u64) -> Result<MapValue, Failed> {
     match map.sort() {
         DataSort::Map(key_width, word_width)
             if fits_width(key_width, key) && fits_width(word_width, word) => {

@@ -1,0 +1,7 @@
+mod Marks
+mod Pieces
+mod Splits
+mod Joins
+mod Searches
+mod Clears
+mod Decisions

@@ -1,0 +1,5 @@
+pub mod Answers
+pub mod Parts
+pub mod Splitting
+pub mod Usage
+pub mod Questions
