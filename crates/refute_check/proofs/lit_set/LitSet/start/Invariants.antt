@@ -1,0 +1,8 @@
+use Rattle.std.proofs.Common.{◌≡◌, take}
+use Rattle.refute_check.specs.Literals.{has_lit}
+use Rattle.refute_check.specs.Sets.{marked}
+use Rattle.refute_check.specs.declared.lit.Lit.{Lit as Literal}
+use Rattle.refute_check.proofs.lit_set.LitSet.start.Given as goal
+
+abbrev pub invariant-loop-lit : goal.invariant-loop-lit
+invariant-loop-lit l = (x : Literal) → marked l.self x ≡ has_lit (take l.lit-index l.lit-items) x
