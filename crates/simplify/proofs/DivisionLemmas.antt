@@ -22,7 +22,7 @@ use Rattle.simplify.proofs.WordLemmas.{add_commutes, mul_commutes}
 use Rattle.simplify.proofs.RewriteLemmas.{IsWord, word_form, two_sizes, there}
 
 -- what two words of one width have where they give a word
-record AreWords (s t r : DataSort) : Type 0 where
+pub record AreWords (s t r : DataSort) : Type 0 where
   pub width : ℕ
   pub first : s ≡ BitsSort width
   pub second : t ≡ BitsSort width
@@ -34,7 +34,7 @@ words_either v w true r e is =
     record { width = v; first = refl; second = ap BitsSort (sym (eqb-true v w e)); result = (let s : r ≡ BitsSort v = cc in s) }
 words_either v w false r e is = let bad : None ≡ Some r = rw e at is in absurd (cc)
 
-are_words : (s t r : DataSort) → same_words_sort BitsSort (s ∷ t ∷ []) ≡ Some r → AreWords s t r
+pub are_words : (s t r : DataSort) → same_words_sort BitsSort (s ∷ t ∷ []) ≡ Some r → AreWords s t r
 are_words BoolSort t r is = absurd (cc)
 are_words (MapSort k w) t r is = absurd (cc)
 are_words (BitsSort v) BoolSort r is = absurd (cc)

@@ -15,3 +15,4 @@ pub mod FlagLemmas
 pub mod DivisionLemmas
 pub mod PartLemmas
 pub mod AbsorbingLemmas
+pub mod SplitLemmas

@@ -125,24 +125,24 @@ exponent_fits w k lt = let h = exponent_below w k lt in let p = less_than_power 
 not_zero : (k : ℕ) → (2 ^ k == 0) ≡ false
 not_zero k = ne_eqb (2 ^ k) 0 (λ e. let p = pow_pos k in omega arith)
 
-moved_left : (w k x : ℕ) → 2 ^ k < 2 ^ w → shift_left w x k ≡ wrap w (x * 2 ^ k)
-moved_left w k x lt = ap (λ b. if b then wrap w (x * 2 ^ k) else 0) (lt-ltb k w (exponent_below w k lt))
+pub moved_left : (w k x : ℕ) → k < w → shift_left w x k ≡ wrap w (x * 2 ^ k)
+moved_left w k x lt = ap (λ b. if b then wrap w (x * 2 ^ k) else 0) (lt-ltb k w lt)
 
-moved_right : (w k x : ℕ) → 2 ^ k < 2 ^ w → shift_right w x k ≡ x / 2 ^ k
-moved_right w k x lt = ap (λ b. if b then x / 2 ^ k else 0) (lt-ltb k w (exponent_below w k lt))
+pub moved_right : (w k x : ℕ) → k < w → shift_right w x k ≡ x / 2 ^ k
+moved_right w k x lt = ap (λ b. if b then x / 2 ^ k else 0) (lt-ltb k w lt)
 
 pub mul_power : (w y k : ℕ) → y < 2 ^ w → y ≡ 2 ^ k → IsReplacing Mul w y Shl k
 mul_power w y k lt e = let below : 2 ^ k < 2 ^ w = subst (λ n. n < 2 ^ w) e lt in record {
   fits = exponent_fits w k below;
   sort = refl;
-  means = λ x fits. ap (λ n. One (Bits w n)) (moved_left w k x below ∙ ap (λ n. wrap w (x * n)) (sym e));
+  means = λ x fits. ap (λ n. One (Bits w n)) (moved_left w k x (exponent_below w k below) ∙ ap (λ n. wrap w (x * n)) (sym e));
 }
 
 pub udiv_power : (w y k : ℕ) → y < 2 ^ w → y ≡ 2 ^ k → IsReplacing Udiv w y Lshr k
 udiv_power w y k lt e = let below : 2 ^ k < 2 ^ w = subst (λ n. n < 2 ^ w) e lt in record {
   fits = exponent_fits w k below;
   sort = refl;
-  means = λ x fits. ap (λ n. One (Bits w n)) (moved_right w k x below ∙ sym (ap (quotient w x) e ∙ ap (λ b. if b then 2 ^ w - 1 else x / 2 ^ k) (not_zero k)));
+  means = λ x fits. ap (λ n. One (Bits w n)) (moved_right w k x (exponent_below w k below) ∙ sym (ap (quotient w x) e ∙ ap (λ b. if b then 2 ^ w - 1 else x / 2 ^ k) (not_zero k)));
 }
 
 pub urem_power : (w y k : ℕ) → y < 2 ^ w → y ≡ 2 ^ k → IsReplacing Urem w y BvAnd (y - 1)

@@ -5,6 +5,7 @@ use Rattle.data_value.specs.declared.Op.{Op}
 use Rattle.data_value.specs.declared.Op.TheVariants.{Mul, Udiv, Urem}
 use Rattle.data_value.specs.Ops.{op_value}
 use Rattle.data_value.specs.Nodes.{Seen, Apply}
+use Rattle.simplify.specs.Split.{IsSplit}
 
 -- A node means what an operator gives two nodes.
 abbrev pub MeansOf : {N : Type 0} → (N → Seen N) → N → Op → N → N → Type 0
@@ -24,3 +25,7 @@ pub record IsDividend {N : Type 0} (look : N → Seen N) (product rest : N) (s :
   pub remainder : (look rest).shown ≡ Apply Urem (dividend ∷ divisor ∷ [])
   pub multiple : IsMultiple look product dividend divisor
   pub same : s ≡ look dividend
+
+-- One node and another are the multiple of a quotient and the remainder, or the upper and the lower bits of a word, and s is the whole.
+abbrev pub IsWhole : {N : Type 0} → (N → Seen N) → N → N → Seen N → Type 0
+IsWhole look upper lower s = IsDividend look upper lower s ⊎ IsSplit look upper lower s

@@ -7,3 +7,4 @@ pub mod Rewrites
 pub mod Past
 pub mod Division
 pub mod Parts
+pub mod Split

@@ -1,13 +1,14 @@
-//! Sums of the multiple of a quotient and the remainder.
+//! Sums of the multiple of a quotient and the remainder, also where these are a word's upper and lower bits.
 ghost use Rattle.std.specs.Prelude.{◌≡◌, [], ◌∷◌, true, IsSome, IsTrue, IfOk, IfSome};
 ghost use Rattle.data_value.specs.declared.Op.TheVariants.{Add, Udiv};
 ghost use Rattle.data_value.specs.Sorts.{op_sort};
 ghost use Rattle.data_value.specs.Nodes.{sorts_of};
 ghost use Rattle.simplify.specs.Rewrites.{IsRewritten};
-ghost use Rattle.simplify.specs.Division.{MeansOf, IsMultiple, IsDividend};
+ghost use Rattle.simplify.specs.Division.{MeansOf, IsMultiple, IsDividend, IsWhole};
 
 use crate::rewritten::Rewritten;
 use crate::same::is_same;
+use crate::split::split_word;
 use data_value::{NoMemory, Op, Symbolic, View};
 
 /// What a sum comes to of the multiple of a quotient and the remainder: the dividend.
@@ -39,14 +40,27 @@ fn dividend_of_sum<D: Symbolic>(
     requires sorted { IsSome (op_sort Add (sorts_of (D.look d.now) (a.now ∷ b.now ∷ []))) }
     ensures { IfOk result (λ o. IfSome o (IsRewritten (D.variables d.now) (D.look d.now) Add (a.now ∷ b.now ∷ []))) }
 {
-    match dividend(d, a, b)? {
+    match whole(d, a, b)? {
         Some(found) => Ok(Some(Rewritten::Node(found))),
         None => {
-            match dividend(d, b, a)? {
+            match whole(d, b, a)? {
                 Some(found) => Ok(Some(Rewritten::Node(found))),
                 None => Ok(None),
             }
         }
+    }
+}
+
+// The word that two nodes make together: the dividend of a remainder, or where the divisor was a power of two, the word of which these
+// are the upper and the lower bits.
+fn whole<D: Symbolic>(d: &D, product: &D::Node, rest: &D::Node) -> Result<Option<D::Node>, NoMemory>
+    requires product { IsTrue (D.look d.now product.now).valid }
+    requires rest { IsTrue (D.look d.now rest.now).valid }
+    ensures { IfOk result (λ o. IfSome o (λ n. IsWhole (D.look d.now) product.now rest.now (D.look d.now n))) }
+{
+    match dividend(d, product, rest)? {
+        Some(found) => Ok(Some(found)),
+        None => Ok(split_word(d, product, rest)?),
     }
 }
 

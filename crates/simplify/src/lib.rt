@@ -12,6 +12,7 @@ mod parts;
 mod reads;
 mod rewritten;
 mod same;
+mod split;
 mod sums;
 mod values;
 
