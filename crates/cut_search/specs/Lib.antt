@@ -1,0 +1,4 @@
+pub mod Conditions
+pub mod Outside
+pub mod Drops
+pub mod Found
