@@ -1,5 +1,5 @@
 //! Who says which paths are dropped.
-ghost use Rattle.std.specs.Prelude.{◌≡◌, IfOk, IsTrue};
+ghost use Rattle.std.specs.Prelude.{◌≡◌, IfOk, IsTrue, IsFalse};
 ghost use Rattle.data_value.specs.Nodes.{Extends};
 ghost use Rattle.data_value.specs.Truth.{IsCondition};
 
@@ -16,6 +16,9 @@ pub trait Drops<D: Symbolic> {
     /// What holds of each condition whose paths are dropped, over variables of these sorts.
     ghost Allows: { List DataSort → Seen D.Node → Type 0 };
 
+    /// What holds of each condition that it was asked about and whose paths are kept.
+    ghost Keeps: { List DataSort → Seen D.Node → Type 0 };
+
     /// Whether paths under a condition are dropped. `question` is the number of the question.
     fn drops(
         &mut self,
@@ -27,5 +30,6 @@ pub trait Drops<D: Symbolic> {
         requires { IsCondition (D.look d.old condition.now) }
         ensures extends { Extends (D.look d.old) (D.look d.new) }
         ensures same_variables { D.variables d.new ≡ D.variables d.old }
-        ensures allowed { IfOk result (λ dropped. IsTrue dropped → Allows (D.variables d.old) (D.look d.old condition.now)) };
+        ensures allowed { IfOk result (λ dropped. IsTrue dropped → Allows (D.variables d.old) (D.look d.old condition.now)) }
+        ensures kept { IfOk result (λ dropped. IsFalse dropped → Keeps (D.variables d.old) (D.look d.old condition.now)) };
 }

@@ -26,9 +26,11 @@ use std::alloc::Global;
 pub struct Decider {}
 
 impl<D: Symbolic> Drops<D> for Decider {
-    ghost use Rattle.prover.specs.Answers.{IsNeverTrue};
+    ghost use Rattle.prover.specs.Answers.{IsNeverTrue, IsSometimesTrue};
 
     ghost Allows = { λ variables s. IsNeverTrue variables s };
+
+    ghost Keeps = { λ variables s. IsSometimesTrue variables s };
 
     fn drops(
         &mut self,
