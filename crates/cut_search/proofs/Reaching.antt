@@ -1,7 +1,7 @@
 -- What is found by parts of a search, in one.
-use Rattle.std.proofs.Common.{arith, ◌≡◌, ◌≢◌, ◌+◌, ◌<◌, ◌≤◌, ℕ, List, [], ◌++◌, length, take, get_or, All, sym, ap, ◌∙◌, subst, ◌⊎◌, inl, inr}
+use Rattle.std.proofs.Common.{arith, ◌≡◌, ◌≢◌, ◌+◌, ◌<◌, ◌≤◌, ℕ, Bool, true, false, List, [], ◌++◌, length, take, get_or, All, sym, ap, ◌∙◌, subst, ◌⊎◌, inl, inr}
 use Rattle.std.proofs.lemmas.List.{map-append, take_all, length-map}
-use Rattle.std.proofs.lemmas.List.Elements.{All-nil, All-append}
+use Rattle.std.proofs.lemmas.List.Elements.{All-nil, All-append, All-weaker}
 use Rattle.data_value.specs.declared.DataSort.{DataSort}
 use Rattle.data_value.specs.declared.Value.{Value}
 use Rattle.data_value.specs.Nodes.{Seen, Extends, IsValuation}
@@ -16,7 +16,7 @@ use Rattle.path_condition.specs.Leaves.{SeenLeaf, seen_leaf, seen_leaves, IsLeaf
 use Rattle.path_condition.proofs.LeafLemmas.{leaves_same, leaf_stays}
 use Rattle.cut_search.specs.declared.reach.Reach.{Reach}
 use Rattle.cut_search.specs.Drops.{Giving, AreLeavesBut}
-use Rattle.cut_search.specs.Found.{SeenReach, seen_reach, Found, IsReach, Nothing, SplitOf, StopsOf, NextOf}
+use Rattle.cut_search.specs.Found.{SeenReach, seen_reach, Found, IsReach, Nothing, SplitOf, StopsOf, NextOf, Judgement}
 use Rattle.cut_search.proofs.Giving.{Gets, among_none, among_more, among_join, but_none, but_same, but_join}
 
 -- two reaches in one
@@ -55,38 +55,60 @@ pub record AllSame (variables : List DataSort) (P Q : Found) : Type 0 where
   pub halted : Gets variables P.halted Q.halted × Gets variables Q.halted P.halted
   pub dropped : Gets variables P.dropped Q.dropped
 
-module _ {N : Type 0} (variables : List DataSort) (sys : System) (Allows : Seen N → Type 0) where
-  pub reach_join : (P Q R : Found) (r s : SeenReach N) → AllJoin variables P Q R → IsReach variables sys Allows P r → IsReach variables sys Allows Q s → IsReach variables sys Allows R (both_reaches r s)
+module _ {N : Type 0} (variables : List DataSort) (sys : System) (Judged : Judgement N) where
+  pub reach_join : (P Q R : Found) (r s : SeenReach N) → AllJoin variables P Q R → IsReach variables sys Judged P r → IsReach variables sys Judged Q s → IsReach variables sys Judged R (both_reaches r s)
   reach_join P Q R r s j p q = record {
     met = lists P.met Q.met R.met r.met s.met j.met p.met q.met;
     long = lists P.long Q.long R.long r.long s.long j.long p.long q.long;
     halted = lists P.halted Q.halted R.halted r.halted s.halted j.halted p.halted q.halted;
     dropped = among_join variables sys P.dropped Q.dropped R.dropped r.dropped s.dropped j.left j.right p.dropped q.dropped;
-    allowed = All-append (λ l. Allows l.condition) r.dropped s.dropped p.allowed q.allowed;
+    allowed = All-append (λ l. Judged true l.condition) r.dropped s.dropped p.allowed q.allowed;
+    met_kept = All-append (λ l. Judged false l.condition) r.met s.met p.met_kept q.met_kept;
+    long_kept = All-append (λ l. Judged false l.condition) r.long s.long p.long_kept q.long_kept;
+    halted_kept = All-append (λ l. Judged false l.condition) r.halted s.halted p.halted_kept q.halted_kept;
   }
     where
       lists : (A B C : Giving) (a b : List (SeenLeaf N)) → Joins variables A B C → AreLeavesBut variables sys r.dropped A a → AreLeavesBut variables sys s.dropped B b → AreLeavesBut variables sys (r.dropped ++ s.dropped) C (a ++ b)
       lists A B C a b k x y = but_join variables sys r.dropped s.dropped A B C a b k.left k.right (λ v fits none rules t c. k.either v fits rules t c) x y
 
-  pub reach_same : (P Q : Found) (r : SeenReach N) → AllSame variables P Q → IsReach variables sys Allows P r → IsReach variables sys Allows Q r
+  pub reach_same : (P Q : Found) (r : SeenReach N) → AllSame variables P Q → IsReach variables sys Judged P r → IsReach variables sys Judged Q r
   reach_same P Q r same p = record {
     met = lists P.met Q.met r.met same.met p.met;
     long = lists P.long Q.long r.long same.long p.long;
     halted = lists P.halted Q.halted r.halted same.halted p.halted;
     dropped = among_more variables sys P.dropped Q.dropped r.dropped same.dropped p.dropped;
     allowed = p.allowed;
+    met_kept = p.met_kept;
+    long_kept = p.long_kept;
+    halted_kept = p.halted_kept;
   }
     where
       lists : (A B : Giving) (a : List (SeenLeaf N)) → Gets variables A B × Gets variables B A → AreLeavesBut variables sys r.dropped A a → AreLeavesBut variables sys r.dropped B a
       lists A B a k x = but_same variables sys r.dropped A B a k.0 (λ v fits none rules t y. k.1 v fits rules t y) x
 
-  pub reach_none : (P : Found) → AllNever P → IsReach variables sys Allows P no_reach
+  pub reach_none : (P : Found) → AllNever P → IsReach variables sys Judged P no_reach
   reach_none P never = record {
     met = but_none variables sys [] P.met (λ v fits none rules t x. never.met v rules t x);
     long = but_none variables sys [] P.long (λ v fits none rules t x. never.long v rules t x);
     halted = but_none variables sys [] P.halted (λ v fits none rules t x. never.halted v rules t x);
     dropped = among_none variables sys P.dropped;
-    allowed = All-nil (λ (l : SeenLeaf N). Allows l.condition);
+    allowed = All-nil (λ (l : SeenLeaf N). Judged true l.condition);
+    met_kept = All-nil (λ (l : SeenLeaf N). Judged false l.condition);
+    long_kept = All-nil (λ (l : SeenLeaf N). Judged false l.condition);
+    halted_kept = All-nil (λ (l : SeenLeaf N). Judged false l.condition);
+  }
+
+  -- judged by another, who allows and keeps no less
+  pub reach_judged : (Other : Judgement N) → ((b : Bool) (c : Seen N) → Judged b c → Other b c) → (P : Found) (r : SeenReach N) → IsReach variables sys Judged P r → IsReach variables sys Other P r
+  reach_judged Other more P r p = record {
+    met = p.met;
+    long = p.long;
+    halted = p.halted;
+    dropped = p.dropped;
+    allowed = All-weaker (λ l. Judged true l.condition) (λ l. Other true l.condition) (λ l h. more true l.condition h) r.dropped p.allowed;
+    met_kept = All-weaker (λ l. Judged false l.condition) (λ l. Other false l.condition) (λ l h. more false l.condition h) r.met p.met_kept;
+    long_kept = All-weaker (λ l. Judged false l.condition) (λ l. Other false l.condition) (λ l h. more false l.condition h) r.long p.long_kept;
+    halted_kept = All-weaker (λ l. Judged false l.condition) (λ l. Other false l.condition) (λ l h. more false l.condition h) r.halted p.halted_kept;
   }
 
 -- what is found from what A or B relates is what is found from A and from B, and nothing where A is never
@@ -169,8 +191,8 @@ next_additive Steps In = record {
     gone variables A C f v fits rules t (inr x) = inr (f v fits rules t x.0, x.1)
 
 -- a reach is the same after the domain has grown
-pub reach_stays : {S N : Type 0} (f g : N → Seen N) → Extends f g → (variables : List DataSort) (sys : System) (Allows : Seen N → Type 0) (P : Found) (r : Reach S N) → IsReach variables sys Allows P (seen_reach f r) → seen_reach g r ≡ seen_reach f r
-reach_stays f g x variables sys Allows P r p =
+pub reach_stays : {S N : Type 0} (f g : N → Seen N) → Extends f g → (variables : List DataSort) (sys : System) (Judged : Judgement N) (P : Found) (r : Reach S N) → IsReach variables sys Judged P (seen_reach f r) → seen_reach g r ≡ seen_reach f r
+reach_stays f g x variables sys Judged P r p =
     let met = leaves_same f g x sys r.met p.met.among.each in
     let long = leaves_same f g x sys r.long p.long.among.each in
     let halted = leaves_same f g x sys r.halted p.halted.among.each in
@@ -193,10 +215,10 @@ seen_joined f r s all j =
     λ i. record { met = met i; long = long i; halted = halted i; dropped = dropped i }
 
 -- the first part was found before the domain grew
-pub reach_joined : {S N : Type 0} (f g : N → Seen N) → Extends f g → (variables : List DataSort) (sys : System) (Allows : Seen N → Type 0) (P Q R : Found) (r s all : Reach S N) → AllJoin variables P Q R → IsJoined r s all → IsReach variables sys Allows P (seen_reach f r) → IsReach variables sys Allows Q (seen_reach g s) → IsReach variables sys Allows R (seen_reach g all)
-reach_joined f g x variables sys Allows P Q R r s all j is p q =
-    let now : IsReach variables sys Allows P (seen_reach g r) = subst (IsReach variables sys Allows P) (sym (reach_stays f g x variables sys Allows P r p)) p in
-    subst (IsReach variables sys Allows R) (sym (seen_joined g r s all is)) (reach_join variables sys Allows P Q R (seen_reach g r) (seen_reach g s) j now q)
+pub reach_joined : {S N : Type 0} (f g : N → Seen N) → Extends f g → (variables : List DataSort) (sys : System) (Judged : Judgement N) (P Q R : Found) (r s all : Reach S N) → AllJoin variables P Q R → IsJoined r s all → IsReach variables sys Judged P (seen_reach f r) → IsReach variables sys Judged Q (seen_reach g s) → IsReach variables sys Judged R (seen_reach g all)
+reach_joined f g x variables sys Judged P Q R r s all j is p q =
+    let now : IsReach variables sys Judged P (seen_reach g r) = subst (IsReach variables sys Judged P) (sym (reach_stays f g x variables sys Judged P r p)) p in
+    subst (IsReach variables sys Judged R) (sym (seen_joined g r s all is)) (reach_join variables sys Judged P Q R (seen_reach g r) (seen_reach g s) j now q)
 
 -- a reach with nothing
 pub seen_nothing : {S N : Type 0} (f : N → Seen N) (r : Reach S N) → r.met ≡ [] → r.long ≡ [] → r.halted ≡ [] → r.dropped ≡ [] → seen_reach f r ≡ no_reach
@@ -208,13 +230,13 @@ seen_nothing f r m l h d =
     λ i. record { met = met i; long = long i; halted = halted i; dropped = dropped i }
 
 -- a loop over leaves, each of which adds its part
-module _ {S N : Type 0} (variables : List DataSort) (sys : System) (Allows : Seen N → Type 0) (F : Giving → Found) (additive : Additive F) (f0 : N → Seen N) (leaves : List (Leaf S N)) where
+module _ {S N : Type 0} (variables : List DataSort) (sys : System) (Judged : Judgement N) (F : Giving → Found) (additive : Additive F) (f0 : N → Seen N) (leaves : List (Leaf S N)) where
   -- what is found from the first i leaves
   abbrev pub FromFirst : ℕ → Found
   FromFirst i = F (λ v rules t. Gives v rules t (take i (seen_leaves f0 leaves)))
 
-  pub loop_start : (r : Reach S N) → seen_reach f0 r ≡ no_reach → IsReach variables sys Allows (FromFirst 0) (seen_reach f0 r)
-  loop_start r e = subst (IsReach variables sys Allows (FromFirst 0)) (sym e) (reach_none variables sys Allows (FromFirst 0) (additive.strict (λ v rules t. Gives v rules t (take 0 (seen_leaves f0 leaves))) (λ v rules t a. any_none (Says {N = N} v rules t) a)))
+  pub loop_start : (r : Reach S N) → seen_reach f0 r ≡ no_reach → IsReach variables sys Judged (FromFirst 0) (seen_reach f0 r)
+  loop_start r e = subst (IsReach variables sys Judged (FromFirst 0)) (sym e) (reach_none variables sys Judged (FromFirst 0) (additive.strict (λ v rules t. Gives v rules t (take 0 (seen_leaves f0 leaves))) (λ v rules t a. any_none (Says {N = N} v rules t) a)))
 
   module _ (i : ℕ) (l : Leaf S N) (lt : i < length leaves) (is : l ≡ get_or leaves i l) where
     gives_more : Joins variables (λ v rules t. Gives v rules t (take i (seen_leaves f0 leaves))) (λ v rules t. Says v rules t (seen_leaf f0 l)) (λ v rules t. Gives v rules t (take (i + 1) (seen_leaves f0 leaves)))
@@ -234,18 +256,18 @@ module _ {S N : Type 0} (variables : List DataSort) (sys : System) (Allows : See
       pub leaf_now : (f : N → Seen N) → Extends f0 f → IsLeaf sys (seen_leaf f l)
       leaf_now f x = subst (IsLeaf sys) (sym (leaf_stays f0 f x sys l leaf_first)) leaf_first
 
-      pub loop_more : (f g : N → Seen N) → Extends f0 f → Extends f g → (r s all : Reach S N) → IsJoined r s all → IsReach variables sys Allows (FromFirst i) (seen_reach f r) → IsReach variables sys Allows (F (λ v rules t. Says v rules t (seen_leaf f l))) (seen_reach g s) → IsReach variables sys Allows (FromFirst (i + 1)) (seen_reach g all)
+      pub loop_more : (f g : N → Seen N) → Extends f0 f → Extends f g → (r s all : Reach S N) → IsJoined r s all → IsReach variables sys Judged (FromFirst i) (seen_reach f r) → IsReach variables sys Judged (F (λ v rules t. Says v rules t (seen_leaf f l))) (seen_reach g s) → IsReach variables sys Judged (FromFirst (i + 1)) (seen_reach g all)
       loop_more f g x y r s all j p q =
-          let q' : IsReach variables sys Allows (F (λ v rules t. Says v rules t (seen_leaf f0 l))) (seen_reach g s) =
-          subst (λ k. IsReach variables sys Allows (F (λ v rules t. Says v rules t k)) (seen_reach g s)) (leaf_stays f0 f x sys l leaf_first) q in
-          reach_joined f g y variables sys Allows (FromFirst i) (F (λ v rules t. Says v rules t (seen_leaf f0 l))) (FromFirst (i + 1)) r s all
+          let q' : IsReach variables sys Judged (F (λ v rules t. Says v rules t (seen_leaf f0 l))) (seen_reach g s) =
+          subst (λ k. IsReach variables sys Judged (F (λ v rules t. Says v rules t k)) (seen_reach g s)) (leaf_stays f0 f x sys l leaf_first) q in
+          reach_joined f g y variables sys Judged (FromFirst i) (F (λ v rules t. Says v rules t (seen_leaf f0 l))) (FromFirst (i + 1)) r s all
           (additive.joins variables (λ v rules t. Gives v rules t (take i (seen_leaves f0 leaves))) (λ v rules t. Says v rules t (seen_leaf f0 l)) (λ v rules t. Gives v rules t (take (i + 1) (seen_leaves f0 leaves))) gives_more)
           j p q'
 
-  pub loop_end : (i : ℕ) (r : SeenReach N) → length leaves ≤ i → IsReach variables sys Allows (FromFirst i) r → IsReach variables sys Allows (F (λ v rules t. Gives v rules t (seen_leaves f0 leaves))) r
+  pub loop_end : (i : ℕ) (r : SeenReach N) → length leaves ≤ i → IsReach variables sys Judged (FromFirst i) r → IsReach variables sys Judged (F (λ v rules t. Gives v rules t (seen_leaves f0 leaves))) r
   loop_end i r le p =
       let long = length-map leaves (seen_leaf f0) in
-      subst (λ ls. IsReach variables sys Allows (F (λ v rules t. Gives v rules t ls)) r) (take_all i (seen_leaves f0 leaves) (omega (arith, long))) p
+      subst (λ ls. IsReach variables sys Judged (F (λ v rules t. Gives v rules t ls)) r) (take_all i (seen_leaves f0 leaves) (omega (arith, long))) p
 
 -- a reach with halted leaves alone
 pub seen_halted : {S N : Type 0} (f : N → Seen N) (k d m l : List (Leaf S N)) → m ≡ [] → l ≡ [] → seen_reach f (record { met = m; long = l; halted = k; dropped = d }) ≡ record { met = []; long = []; halted = seen_leaves f k; dropped = seen_leaves f d }

@@ -1,6 +1,6 @@
 -- The search, one level after the other.
-use Rattle.std.proofs.Common.{◌≡◌, ◌≢◌, ℕ, ◌+◌, true, List, [], ◌∷◌, ◌++◌, All, sym, ap, subst, ◌⊎◌, inl, inr}
-use Rattle.std.proofs.lemmas.List.Elements.{All-nil, All-append}
+use Rattle.std.proofs.Common.{◌≡◌, ◌≢◌, ℕ, ◌+◌, true, false, List, [], ◌∷◌, ◌++◌, All, sym, ap, subst, ◌⊎◌, inl, inr}
+use Rattle.std.proofs.lemmas.List.Elements.{All-nil, All-cons, All-append}
 use Rattle.data_value.specs.declared.DataSort.{DataSort}
 use Rattle.data_value.specs.declared.Value.{Value}
 use Rattle.data_value.specs.Nodes.{Seen, Extends, IsValuation}
@@ -17,7 +17,7 @@ use Rattle.path_condition.specs.Leaves.{SeenLeaf, seen_leaves, IsLeaf, Says, Giv
 use Rattle.path_condition.proofs.LeafLemmas.{leaves_appended}
 use Rattle.cut_search.specs.declared.reach.Reach.{Reach}
 use Rattle.cut_search.specs.Drops.{Giving, EndsFrom, OpenTo, AreLeavesBut, NoneHolds}
-use Rattle.cut_search.specs.Found.{SeenReach, seen_reach, Found, IsReach, Nothing, StopsOf, NextOf, SearchOf}
+use Rattle.cut_search.specs.Found.{SeenReach, seen_reach, Found, IsReach, Nothing, StopsOf, NextOf, SearchOf, Judgement}
 use Rattle.cut_search.proofs.Giving.{Gets, GetsBut, among_none, among_join, but_none, but_one, but_same, but_join, but_next}
 use Rattle.cut_search.proofs.Reaching.{both_reaches, IsJoined, after_gets}
 use Rattle.cut_search.proofs.Opening.{HaltedBelow, LongStops, halted_below_zero, halted_below_more, halted_within, long_open, after_open, open_more}
@@ -36,13 +36,13 @@ module _ {N : Type 0} (c : Seen N) (start : Term (Seen N)) (Steps : ℕ → Tree
     dropped = EndsFrom c start (OpenTo Steps In k);
   }
 
-  module _ (variables : List DataSort) (sys : System) (Allows : Seen N → Type 0) where
+  module _ (variables : List DataSort) (sys : System) (Judged : Judgement N) where
     -- before the first step
     abbrev pub first_leaf : SeenLeaf N
     first_leaf = record { condition = c; state = start; rules = [] }
 
-    pub found_first : IsLeaf sys first_leaf → IsReach variables sys Allows (FoundIn 0) (record { met = []; long = first_leaf ∷ []; halted = []; dropped = [] })
-    found_first is = record {
+    pub found_first : IsLeaf sys first_leaf → Judged false c → IsReach variables sys Judged (FoundIn 0) (record { met = []; long = first_leaf ∷ []; halted = []; dropped = [] })
+    found_first is settled = record {
       met = but_none variables sys [] (EndsFrom c start (MetTo Steps In 0)) (λ v fits none rules t x. met_zero Steps In (tree_of v start) rules t x.1);
       long = but_same variables sys [] (λ v rules t. Says v rules t first_leaf) (EndsFrom c start (LongTo Steps In 0)) (first_leaf ∷ [])
           (λ v fits rules t s. (s.holds, (long_zero Steps In (tree_of v start) rules t).1 (sym s.by, s.state)))
@@ -50,10 +50,13 @@ module _ {N : Type 0} (c : Seen N) (start : Term (Seen N)) (Steps : ℕ → Tree
           (but_one variables sys first_leaf is);
       halted = but_none variables sys [] (EndsFrom c start (λ s. HaltedBelow Steps In s 0)) (λ v fits none rules t x. halted_below_zero Steps In (tree_of v start) rules t x.1);
       dropped = among_none variables sys (EndsFrom c start (OpenTo Steps In 0));
-      allowed = All-nil (λ (l : SeenLeaf N). Allows l.condition);
+      allowed = All-nil (λ (l : SeenLeaf N). Judged true l.condition);
+      met_kept = All-nil (λ (l : SeenLeaf N). Judged false l.condition);
+      long_kept = All-cons (λ (l : SeenLeaf N). Judged false l.condition) first_leaf [] settled (All-nil (λ (l : SeenLeaf N). Judged false l.condition));
+      halted_kept = All-nil (λ (l : SeenLeaf N). Judged false l.condition);
     }
 
-    module _ (k : ℕ) (r : SeenReach N) (p : IsReach variables sys Allows (FoundIn k) r) where
+    module _ (k : ℕ) (r : SeenReach N) (p : IsReach variables sys Judged (FoundIn k) r) where
       Open : Giving
       Open v rules t = Gives v rules t r.long
 
@@ -90,7 +93,7 @@ module _ {N : Type 0} (c : Seen N) (start : Term (Seen N)) (Steps : ℕ → Tree
                 go (inl y) = inl (x.0, y)
                 go (inr y) = inr (gives v fits none x.0 rules t y.0, y.1)
 
-      pub found_more : (n : SeenReach N) → IsReach variables sys Allows (NextOf Steps In (λ v rules t. Gives v rules t r.long)) n → IsReach variables sys Allows (FoundIn (k + 1)) (after_reach r n)
+      pub found_more : (n : SeenReach N) → IsReach variables sys Judged (NextOf Steps In (λ v rules t. Gives v rules t r.long)) n → IsReach variables sys Judged (FoundIn (k + 1)) (after_reach r n)
       found_more n q = record {
         met = but_join variables sys r.dropped n.dropped (EndsFrom c start (MetTo Steps In k)) (λ v. After Steps (λ rs u. Gives v rs u r.long) In) (EndsFrom c start (MetTo Steps In (k + 1))) r.met n.met
             (λ v fits rules t x. (x.0, (met_more Steps In (tree_of v start) k rules t).1 (inl x.1)))
@@ -103,7 +106,10 @@ module _ {N : Type 0} (c : Seen N) (start : Term (Seen N)) (Steps : ℕ → Tree
         halted = halted_more n.dropped n.halted q.halted;
         dropped = among_join variables sys (EndsFrom c start (OpenTo Steps In k)) (NextOf Steps In (λ v rules t. Gives v rules t r.long)).dropped (EndsFrom c start (OpenTo Steps In (k + 1))) r.dropped n.dropped
             (λ v fits rules t x. (x.0, open_more Steps In (tree_of v start) k rules t x.1)) gone p.dropped q.dropped;
-        allowed = All-append (λ (l : SeenLeaf N). Allows l.condition) r.dropped n.dropped p.allowed q.allowed;
+        allowed = All-append (λ (l : SeenLeaf N). Judged true l.condition) r.dropped n.dropped p.allowed q.allowed;
+        met_kept = All-append (λ (l : SeenLeaf N). Judged false l.condition) r.met n.met p.met_kept q.met_kept;
+        long_kept = q.long_kept;
+        halted_kept = All-append (λ (l : SeenLeaf N). Judged false l.condition) r.halted n.halted p.halted_kept q.halted_kept;
       }
         where
           met_either : GetsBut variables r.dropped (EndsFrom c start (MetTo Steps In (k + 1))) (λ v rules t. EndsFrom c start (MetTo Steps In k) v rules t ⊎ After Steps (λ rs u. Gives v rs u r.long) In rules t)
@@ -118,7 +124,7 @@ module _ {N : Type 0} (c : Seen N) (start : Term (Seen N)) (Steps : ℕ → Tree
           gone v fits rules t (inr x) = let l = longs v fits rules t x.0 in (l.0, open_more Steps In (tree_of v start) k rules t (long_open Steps In (tree_of v start) k rules t l.1 x.1))
 
       -- after the last step
-      pub found_last : (n : SeenReach N) → IsReach variables sys Allows (StopsOf Steps (λ v rules t. Gives v rules t r.long)) n → IsReach variables sys Allows (SearchOf c start Steps In k) (both_reaches r n)
+      pub found_last : (n : SeenReach N) → IsReach variables sys Judged (StopsOf Steps (λ v rules t. Gives v rules t r.long)) n → IsReach variables sys Judged (SearchOf c start Steps In k) (both_reaches r n)
       found_last n q = record {
         met = still (EndsFrom c start (MetTo Steps In k)) r.met n.met p.met q.met;
         long = still (EndsFrom c start (LongTo Steps In k)) r.long n.long p.long q.long;
@@ -128,14 +134,17 @@ module _ {N : Type 0} (c : Seen N) (start : Term (Seen N)) (Steps : ℕ → Tree
             (halted_more n.dropped n.halted q.halted);
         dropped = among_join variables sys (EndsFrom c start (OpenTo Steps In k)) (λ v rules t. Gives v rules t r.long × (rules ≢ [])) (EndsFrom c start (OpenTo Steps In k)) r.dropped n.dropped
             (λ v fits rules t x. x) (λ v fits rules t x. let l = longs v fits rules t x.0 in (l.0, long_open Steps In (tree_of v start) k rules t l.1 x.1)) p.dropped q.dropped;
-        allowed = All-append (λ (l : SeenLeaf N). Allows l.condition) r.dropped n.dropped p.allowed q.allowed;
+        allowed = All-append (λ (l : SeenLeaf N). Judged true l.condition) r.dropped n.dropped p.allowed q.allowed;
+        met_kept = All-append (λ (l : SeenLeaf N). Judged false l.condition) r.met n.met p.met_kept q.met_kept;
+        long_kept = All-append (λ (l : SeenLeaf N). Judged false l.condition) r.long n.long p.long_kept q.long_kept;
+        halted_kept = All-append (λ (l : SeenLeaf N). Judged false l.condition) r.halted n.halted p.halted_kept q.halted_kept;
       }
         where
           still : (P : Giving) (a b : List (SeenLeaf N)) → AreLeavesBut variables sys r.dropped P a → AreLeavesBut variables sys n.dropped Nothing b → AreLeavesBut variables sys (r.dropped ++ n.dropped) P (a ++ b)
           still P a b x y = but_join variables sys r.dropped n.dropped P Nothing P a b (λ v fits rules t z. z) (λ v fits rules t z. absurd z) (λ v fits none rules t z. inl z) x y
 
 -- a reach that was found before the domain grew, and another: in one, or the one followed by the other
-module _ {S N : Type 0} (f g : N → Seen N) (x : Extends f g) (variables : List DataSort) (sys : System) (Allows : Seen N → Type 0) (P : Found) (r s all : Reach S N) (p : IsReach variables sys Allows P (seen_reach f r)) where
+module _ {S N : Type 0} (f g : N → Seen N) (x : Extends f g) (variables : List DataSort) (sys : System) (Judged : Judgement N) (P : Found) (r s all : Reach S N) (p : IsReach variables sys Judged P (seen_reach f r)) where
   pub seen_both : IsJoined r s all → seen_reach g all ≡ both_reaches (seen_reach f r) (seen_reach g s)
   seen_both j =
       let met = leaves_appended f g x sys r.met s.met all.met p.met.among.each j.met in
@@ -153,28 +162,28 @@ module _ {S N : Type 0} (f g : N → Seen N) (x : Extends f g) (variables : List
       λ i. record { met = met i; long = long i; halted = halted i; dropped = dropped i }
 
 -- the first reach, what follows a reach, and the last reach
-module _ {S N : Type 0} (c : Seen N) (start : Term (Seen N)) (Steps : ℕ → Tree → Tree → Type 0) (In : Tree → Type 0) (variables : List DataSort) (sys : System) (Allows : Seen N → Type 0) where
-  pub reach_first : (f : N → Seen N) (r : Reach S N) → IsCondition c → IsConfiguration sys start → r.met ≡ [] → seen_leaves f r.long ≡ record { condition = c; state = start; rules = [] } ∷ [] → r.halted ≡ [] → r.dropped ≡ [] → IsReach variables sys Allows (FoundIn c start Steps In 0) (seen_reach f r)
-  reach_first f r is_condition is_start em long eh ed =
+module _ {S N : Type 0} (c : Seen N) (start : Term (Seen N)) (Steps : ℕ → Tree → Tree → Type 0) (In : Tree → Type 0) (variables : List DataSort) (sys : System) (Judged : Judgement N) where
+  pub reach_first : (f : N → Seen N) (r : Reach S N) → IsCondition c → IsConfiguration sys start → r.met ≡ [] → seen_leaves f r.long ≡ record { condition = c; state = start; rules = [] } ∷ [] → r.halted ≡ [] → r.dropped ≡ [] → Judged false c → IsReach variables sys Judged (FoundIn c start Steps In 0) (seen_reach f r)
+  reach_first f r is_condition is_start em long eh ed settled =
       let met = ap (seen_leaves f) em in
       let halted = ap (seen_leaves f) eh in
       let dropped = ap (seen_leaves f) ed in
       let same : seen_reach f r ≡ record { met = []; long = record { condition = c; state = start; rules = [] } ∷ []; halted = []; dropped = [] } = (λ i. record { met = met i; long = long i; halted = halted i; dropped = dropped i }) in
-      subst (IsReach variables sys Allows (FoundIn c start Steps In 0)) (sym same) (found_first c start Steps In variables sys Allows (record { condition = is_condition; state = is_start }))
+      subst (IsReach variables sys Judged (FoundIn c start Steps In 0)) (sym same) (found_first c start Steps In variables sys Judged (record { condition = is_condition; state = is_start }) settled)
 
-  module _ (k : ℕ) (f g : N → Seen N) (x : Extends f g) (r s all : Reach S N) (slice : List (Leaf S N)) (is : slice ≡ r.long) (p : IsReach variables sys Allows (FoundIn c start Steps In k) (seen_reach f r)) where
+  module _ (k : ℕ) (f g : N → Seen N) (x : Extends f g) (r s all : Reach S N) (slice : List (Leaf S N)) (is : slice ≡ r.long) (p : IsReach variables sys Judged (FoundIn c start Steps In k) (seen_reach f r)) where
     pub open_leaves : All (IsLeaf sys) (seen_leaves f slice)
     open_leaves = subst (λ ls. All (IsLeaf sys) (seen_leaves f ls)) (sym is) p.long.among.each
 
-    pub reach_next : IsReach variables sys Allows (NextOf Steps In (λ v rules t. Gives v rules t (seen_leaves f slice))) (seen_reach g s) → all.met ≡ r.met ++ s.met → all.long ≡ s.long → all.halted ≡ r.halted ++ s.halted → all.dropped ≡ r.dropped ++ s.dropped → IsReach variables sys Allows (FoundIn c start Steps In (k + 1)) (seen_reach g all)
+    pub reach_next : IsReach variables sys Judged (NextOf Steps In (λ v rules t. Gives v rules t (seen_leaves f slice))) (seen_reach g s) → all.met ≡ r.met ++ s.met → all.long ≡ s.long → all.halted ≡ r.halted ++ s.halted → all.dropped ≡ r.dropped ++ s.dropped → IsReach variables sys Judged (FoundIn c start Steps In (k + 1)) (seen_reach g all)
     reach_next q em el eh ed =
-        let q' : IsReach variables sys Allows (NextOf Steps In (λ v rules t. Gives v rules t (seen_leaves f r.long))) (seen_reach g s) = subst (λ ls. IsReach variables sys Allows (NextOf Steps In (λ v rules t. Gives v rules t (seen_leaves f ls))) (seen_reach g s)) is q in
-        subst (IsReach variables sys Allows (FoundIn c start Steps In (k + 1))) (sym (seen_followed f g x variables sys Allows (FoundIn c start Steps In k) r s all p em el eh ed))
-        (found_more c start Steps In variables sys Allows k (seen_reach f r) p (seen_reach g s) q')
+        let q' : IsReach variables sys Judged (NextOf Steps In (λ v rules t. Gives v rules t (seen_leaves f r.long))) (seen_reach g s) = subst (λ ls. IsReach variables sys Judged (NextOf Steps In (λ v rules t. Gives v rules t (seen_leaves f ls))) (seen_reach g s)) is q in
+        subst (IsReach variables sys Judged (FoundIn c start Steps In (k + 1))) (sym (seen_followed f g x variables sys Judged (FoundIn c start Steps In k) r s all p em el eh ed))
+        (found_more c start Steps In variables sys Judged k (seen_reach f r) p (seen_reach g s) q')
 
-    pub reach_last : (n : ℕ) → k ≡ n → IsReach variables sys Allows (StopsOf Steps (λ v rules t. Gives v rules t (seen_leaves f slice))) (seen_reach g s) → IsJoined r s all → IsReach variables sys Allows (SearchOf c start Steps In n) (seen_reach g all)
+    pub reach_last : (n : ℕ) → k ≡ n → IsReach variables sys Judged (StopsOf Steps (λ v rules t. Gives v rules t (seen_leaves f slice))) (seen_reach g s) → IsJoined r s all → IsReach variables sys Judged (SearchOf c start Steps In n) (seen_reach g all)
     reach_last n e q j =
-        let q' : IsReach variables sys Allows (StopsOf Steps (λ v rules t. Gives v rules t (seen_leaves f r.long))) (seen_reach g s) = subst (λ ls. IsReach variables sys Allows (StopsOf Steps (λ v rules t. Gives v rules t (seen_leaves f ls))) (seen_reach g s)) is q in
-        subst (λ m. IsReach variables sys Allows (SearchOf c start Steps In m) (seen_reach g all)) e
-        (subst (IsReach variables sys Allows (SearchOf c start Steps In k)) (sym (seen_both f g x variables sys Allows (FoundIn c start Steps In k) r s all p j))
-        (found_last c start Steps In variables sys Allows k (seen_reach f r) p (seen_reach g s) q'))
+        let q' : IsReach variables sys Judged (StopsOf Steps (λ v rules t. Gives v rules t (seen_leaves f r.long))) (seen_reach g s) = subst (λ ls. IsReach variables sys Judged (StopsOf Steps (λ v rules t. Gives v rules t (seen_leaves f ls))) (seen_reach g s)) is q in
+        subst (λ m. IsReach variables sys Judged (SearchOf c start Steps In m) (seen_reach g all)) e
+        (subst (IsReach variables sys Judged (SearchOf c start Steps In k)) (sym (seen_both f g x variables sys Judged (FoundIn c start Steps In k) r s all p j))
+        (found_last c start Steps In variables sys Judged k (seen_reach f r) p (seen_reach g s) q'))

@@ -1,5 +1,5 @@
 -- Leaves, some of which were dropped.
-use Rattle.std.specs.Prelude.{◌≡◌, ℕ, ◌≤◌, ◌++◌, Bool, true, false, List, [], ◌∷◌, length, filter, All}
+use Rattle.std.specs.Prelude.{◌≡◌, ◌⊎◌, ℕ, ◌≤◌, ◌++◌, Bool, true, false, List, [], ◌∷◌, length, filter, All, Any, IsSome}
 use Rattle.data_value.specs.declared.DataSort.{DataSort}
 use Rattle.data_value.specs.declared.Value.{Value}
 use Rattle.data_value.specs.Nodes.{Seen, IsValuation}
@@ -45,6 +45,14 @@ pub record IsOpen {S : Type 0} (Steps : ℕ → S → S → Type 0) (In : S → 
 -- the rules and the last states of the open runs of at most n steps
 abbrev pub OpenTo : {S : Type 0} → (ℕ → S → S → Type 0) → (S → Type 0) → ℕ → S → List ℕ → S → Type 0
 OpenTo Steps In n s = Ends (λ run. IsOpen Steps In s run × (length run ≤ n)) s
+
+-- there is nothing to ask about a condition: it was asked about and kept, it is known, or it is one of those before
+abbrev pub IsSettled : {N : Type 0} → (Seen N → Type 0) → List (Seen N) → Seen N → Type 0
+IsSettled Keeps before c = Keeps c ⊎ IsSome c.known ⊎ Any (λ b. b ≡ c) before
+
+-- so it is with the conditions of these leaves, where the search began under this one
+abbrev pub AreSettled : {N : Type 0} → (Seen N → Type 0) → Seen N → List (SeenLeaf N) → Type 0
+AreSettled Keeps start leaves = All (λ l. IsSettled Keeps (start ∷ []) l.condition) leaves
 
 -- the answers are those that were there and some more, and as many of these are yes as leaves were dropped
 pub record AreAnswered (old new : List Bool) (dropped : ℕ) : Type 0 where

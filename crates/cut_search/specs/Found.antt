@@ -1,14 +1,15 @@
 -- What the parts of a search find.
-use Rattle.std.specs.Prelude.{◌≢◌, ◌⊎◌, ℕ, List, [], All}
+use Rattle.std.specs.Prelude.{◌≢◌, ◌⊎◌, ℕ, Bool, true, false, List, [], All, map}
 use Rattle.data_value.specs.declared.DataSort.{DataSort}
 use Rattle.data_value.specs.Nodes.{Seen}
 use Rattle.sort_term.specs.declared.term.Term.{Term}
 use Rattle.sort_term.specs.System.{System}
 use Rattle.sort_term.specs.Tree.{Tree}
 use Rattle.sort_term.specs.Runs.{IsStuck, After, MetTo, LongTo, HaltedTo}
+use Rattle.path_condition.specs.declared.leaf.Leaf.{Leaf}
 use Rattle.path_condition.specs.Leaves.{SeenLeaf, seen_leaves}
 use Rattle.cut_search.specs.declared.reach.Reach.{Reach}
-use Rattle.cut_search.specs.Drops.{Giving, AreAmong, AreLeavesBut, EndsFrom, OpenTo}
+use Rattle.cut_search.specs.Drops.{Giving, AreAmong, AreLeavesBut, EndsFrom, OpenTo, IsSettled}
 
 -- the leaf under another condition
 abbrev pub under : {N : Type 0} → Seen N → SeenLeaf N → SeenLeaf N
@@ -31,19 +32,35 @@ pub record Found : Type 1 where
   pub halted : Giving
   pub dropped : Giving
 
--- the lists give this but for what was dropped, and what was dropped was allowed to be
-pub record IsReach {N : Type 0} (variables : List DataSort) (sys : System) (Allows : Seen N → Type 0) (found : Found) (r : SeenReach N) : Type 0 where
+-- what holds of the conditions of leaves that were dropped, for true, and of leaves that were kept, for false
+abbrev pub Judgement : Type 0 → Type 1
+Judgement N = Bool → Seen N → Type 0
+
+abbrev pub judged_by : {N : Type 0} → (List DataSort → Seen N → Type 0) → (List DataSort → Seen N → Type 0) → List DataSort → List (Seen N) → Judgement N
+judged_by Allows Keeps variables before true c = Allows variables c
+judged_by Allows Keeps variables before false c = IsSettled (Keeps variables) before c
+
+-- the conditions of leaves
+abbrev pub conditions_of : {S N : Type 0} → (N → Seen N) → List (Leaf S N) → List (Seen N)
+conditions_of look leaves = map (λ l. look l.condition) leaves
+
+-- the lists give this but for what was dropped, and the conditions of all leaves are as they were judged
+pub record IsReach {N : Type 0} (variables : List DataSort) (sys : System) (Judged : Judgement N) (found : Found) (r : SeenReach N) : Type 0 where
   pub met : AreLeavesBut variables sys r.dropped found.met r.met
   pub long : AreLeavesBut variables sys r.dropped found.long r.long
   pub halted : AreLeavesBut variables sys r.dropped found.halted r.halted
   pub dropped : AreAmong variables sys found.dropped r.dropped
-  pub allowed : All (λ l. Allows l.condition) r.dropped
+  pub allowed : All (λ l. Judged true l.condition) r.dropped
+  pub met_kept : All (λ l. Judged false l.condition) r.met
+  pub long_kept : All (λ l. Judged false l.condition) r.long
+  pub halted_kept : All (λ l. Judged false l.condition) r.halted
 
--- the leaves give what P relates but for what was dropped of it, and that was allowed to be
-pub record IsSifted {N : Type 0} (variables : List DataSort) (sys : System) (Allows : Seen N → Type 0) (P : Giving) (stay go : List (SeenLeaf N)) : Type 0 where
+-- the leaves give what P relates but for what was dropped of it, and the conditions of all are as they were judged
+pub record IsSifted {N : Type 0} (variables : List DataSort) (sys : System) (Judged : Judgement N) (P : Giving) (stay go : List (SeenLeaf N)) : Type 0 where
   pub kept : AreLeavesBut variables sys go P stay
   pub dropped : AreAmong variables sys P go
-  pub allowed : All (λ l. Allows l.condition) go
+  pub allowed : All (λ l. Judged true l.condition) go
+  pub settled : All (λ l. Judged false l.condition) stay
 
 -- nothing
 abbrev pub Nothing : Giving

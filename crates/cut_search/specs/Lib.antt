@@ -1,4 +1,3 @@
-pub mod Conditions
-pub mod Outside
 pub mod Drops
 pub mod Found
+pub mod Simpler

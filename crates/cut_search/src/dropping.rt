@@ -9,8 +9,8 @@ ghost use Rattle.sort_term.specs.Runs.{MetTo, LongTo, HaltedTo};
 ghost use Rattle.sort_term.specs.NodeTerms.{seen_term, is_valid_term};
 ghost use Rattle.unify.specs.Branches.{IsConfiguration};
 ghost use Rattle.path_condition.specs.Leaves.{seen_leaves};
-ghost use Rattle.cut_search.specs.Drops.{EndsFrom, OpenTo, AreAmong, AreLeavesBut, AreAnswered};
-ghost use Rattle.cut_search.specs.Found.{seen_reach, IsReach, SearchOf};
+ghost use Rattle.cut_search.specs.Drops.{EndsFrom, OpenTo, AreAmong, AreLeavesBut, AreAnswered, AreSettled};
+ghost use Rattle.cut_search.specs.Found.{seen_reach, IsReach, SearchOf, judged_by};
 
 use crate::drops::Drops;
 use crate::halting::halt_all;
@@ -32,11 +32,12 @@ use unify::copy_term;
 /// met, the long and the halted runs from the configuration's value, by their rules and their last states, where `condition` is
 /// true; under any other they give nothing else. A halted run of exactly `steps` steps is in both lists, `long` and `halted`.
 ///
-/// `judge` is asked about the condition of a path only where it isn't known and isn't that of the path one step before. The
-/// number of a question is the count of `answers` before it, and its answer is appended to them. What is dropped stands whole in
-/// `dropped`: where it holds, its rules are those of a run of which no state strictly between the first and the last is in the
-/// cut. Where a path's condition is known to be false, it is left out without a question. The domain's variables stay as they
-/// are. The only error is want of memory.
+/// `judge` is asked about the condition of a path exactly where it isn't known and isn't kept under the number of that of the path one
+/// step before: so of each leaf that is kept the judge kept its condition, or it is known, or it is `condition`. The number of a question
+/// is the count of `answers` before it, and its answer is appended to them. What is dropped stands whole in `dropped`: where it holds, its
+/// rules are those of a run of which no state strictly between the first and the last is in the cut. Where a path's condition is known to
+/// be false, it is left out without a question. States and conditions are simplified as they are made. The domain's variables stay as
+/// they are. The only error is want of memory.
 pub fn search_dropping<S: Side, D: Symbolic, J: Drops<D>>(
     alloc: Global,
     d: &mut D,
@@ -77,6 +78,12 @@ pub fn search_dropping<S: Side, D: Symbolic, J: Drops<D>>(
         (seen_leaves (D.look d.new) r.dropped)) }
     ensures allowed { IfOk result
         (λ r. All (λ l. J.Allows (D.variables d.old) l.condition) (seen_leaves (D.look d.new) r.dropped)) }
+    ensures met_settled { IfOk result
+        (λ r. AreSettled (J.Keeps (D.variables d.old)) (D.look d.old condition.now) (seen_leaves (D.look d.new) r.met)) }
+    ensures long_settled { IfOk result
+        (λ r. AreSettled (J.Keeps (D.variables d.old)) (D.look d.old condition.now) (seen_leaves (D.look d.new) r.long)) }
+    ensures halted_settled { IfOk result
+        (λ r. AreSettled (J.Keeps (D.variables d.old)) (D.look d.old condition.now) (seen_leaves (D.look d.new) r.halted)) }
     ensures answered { IfOk result (λ r. AreAnswered answers.old.items answers.new.items (length r.dropped)) }
 {
     Ok(all_found(
@@ -104,7 +111,7 @@ fn all_found<S: Side, D: Symbolic, J: Drops<D>>(
     ensures extends { Extends (D.look d.old) (D.look d.new) }
     ensures same_variables { D.variables d.new ≡ D.variables d.old }
     ensures reach { IfOk result
-        (λ r. IsReach (D.variables d.old) semantics.now (J.Allows (D.variables d.old))
+        (λ r. IsReach (D.variables d.old) semantics.now (judged_by J.Allows J.Keeps (D.variables d.old) (D.look d.old condition.now ∷ []))
         (SearchOf (D.look d.old condition.now) (seen_term (D.look d.old) start.now.term)
         (StepsBy semantics.now program.now) (InCut semantics.now.cons cuts.now) steps)
         (seen_reach (D.look d.new) r)) }

@@ -9,8 +9,8 @@ ghost use Rattle.sort_term.specs.Runs.{MetTo, LongTo, HaltedTo};
 ghost use Rattle.sort_term.specs.NodeTerms.{seen_term};
 ghost use Rattle.unify.specs.Branches.{IsConfiguration};
 ghost use Rattle.path_condition.specs.Leaves.{seen_leaves, AreLeaves};
-ghost use Rattle.prover.specs.Answers.{IsNeverTrue};
-ghost use Rattle.cut_search.specs.Drops.{EndsFrom};
+ghost use Rattle.prover.specs.Answers.{IsNeverTrue, IsSometimesTrue};
+ghost use Rattle.cut_search.specs.Drops.{EndsFrom, AreSettled};
 
 use crate::dropping::search_dropping;
 use crate::drops::Drops;
@@ -36,7 +36,8 @@ impl<D: Symbolic> Drops<D> for Decider {
         &mut self,
         alloc: Global,
         d: &mut D,
-        _question: usize,
+        _answers: &[bool],
+        _before: &D::Node,
         condition: &D::Node,
     ) -> Result<bool, NoMemory> {
         match decide(alloc, d, condition)? {
@@ -52,8 +53,8 @@ impl<D: Symbolic> Drops<D> for Decider {
 ///
 /// Under every valuation of the domain's variables, the leaves give exactly the met, the long and the halted runs from the
 /// configuration's value, by their rules and their last states, where `condition` is true. A halted run of exactly `steps` steps
-/// is in both lists, `long` and `halted`. What stands in `dropped` is true under no valuation. The domain's variables stay as
-/// they are. The only error is want of memory.
+/// is in both lists, `long` and `halted`. What stands in `dropped` is true under no valuation, and the condition of each other leaf is
+/// true under some, or is known, or is `condition`. The domain's variables stay as they are. The only error is want of memory.
 pub fn search<S: Side, D: Symbolic>(
     alloc: Global,
     d: &mut D,
@@ -87,6 +88,12 @@ pub fn search<S: Side, D: Symbolic>(
         (seen_leaves (D.look d.new) r.halted)) }
     ensures dropped { IfOk result
         (λ r. All (λ l. IsNeverTrue (D.variables d.old) l.condition) (seen_leaves (D.look d.new) r.dropped)) }
+    ensures met_settled { IfOk result
+        (λ r. AreSettled (IsSometimesTrue (D.variables d.old)) (D.look d.old condition.now) (seen_leaves (D.look d.new) r.met)) }
+    ensures long_settled { IfOk result
+        (λ r. AreSettled (IsSometimesTrue (D.variables d.old)) (D.look d.old condition.now) (seen_leaves (D.look d.new) r.long)) }
+    ensures halted_settled { IfOk result
+        (λ r. AreSettled (IsSometimesTrue (D.variables d.old)) (D.look d.old condition.now) (seen_leaves (D.look d.new) r.halted)) }
 {
     let mut judge = Decider {};
     let mut answers = Vec::new(alloc);

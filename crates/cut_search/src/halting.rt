@@ -1,5 +1,5 @@
 // Leaves that end without a next step.
-ghost use Rattle.std.specs.Prelude.{◌≡◌, length, IfOk, IsTrue, All};
+ghost use Rattle.std.specs.Prelude.{◌≡◌, ◌∷◌, [], length, IfOk, IsTrue, All};
 ghost use Rattle.data_value.specs.Nodes.{Extends};
 ghost use Rattle.data_value.specs.Truth.{IsCondition};
 ghost use Rattle.sort_term.specs.System.{System};
@@ -9,7 +9,7 @@ ghost use Rattle.sort_term.specs.NodeTerms.{seen_term, is_valid_term};
 ghost use Rattle.path_condition.specs.Leaves.{seen_leaf, seen_leaves, IsLeaf, Says, Gives, AreLeaves};
 ghost use Rattle.symbolic_step.specs.OneStep.{StepsFrom, IsStuckWhere};
 ghost use Rattle.cut_search.specs.Drops.{AreAnswered};
-ghost use Rattle.cut_search.specs.Found.{under, seen_reach, IsReach, MovedOf, StopsOf};
+ghost use Rattle.cut_search.specs.Found.{under, seen_reach, IsReach, MovedOf, StopsOf, judged_by, conditions_of};
 
 use crate::drops::Drops;
 use crate::reach::{Reach, joined, nothing};
@@ -37,7 +37,7 @@ pub(crate) fn halt_all<S: Side, D: Symbolic, J: Drops<D>>(
     ensures extends { Extends (D.look d.old) (D.look d.new) }
     ensures same_variables { D.variables d.new ≡ D.variables d.old }
     ensures reach { IfOk result
-        (λ r. IsReach (D.variables d.old) semantics.now (J.Allows (D.variables d.old))
+        (λ r. IsReach (D.variables d.old) semantics.now (judged_by J.Allows J.Keeps (D.variables d.old) (conditions_of (D.look d.old) leaves.now))
         (StopsOf (StepsBy semantics.now program.now) (λ v rules t. Gives v rules t (seen_leaves (D.look d.old) leaves.now)))
         (seen_reach (D.look d.new) r)) }
     ensures answered { IfOk result (λ r. AreAnswered answers.old.items answers.new.items (length r.dropped)) }
@@ -65,7 +65,7 @@ fn halt_one<S: Side, D: Symbolic, J: Drops<D>>(
     ensures extends { Extends (D.look d.old) (D.look d.new) }
     ensures same_variables { D.variables d.new ≡ D.variables d.old }
     ensures reach { IfOk result
-        (λ r. IsReach (D.variables d.old) semantics.now (J.Allows (D.variables d.old))
+        (λ r. IsReach (D.variables d.old) semantics.now (judged_by J.Allows J.Keeps (D.variables d.old) (D.look d.old leaf.now.condition ∷ []))
         (StopsOf (StepsBy semantics.now program.now) (λ v rules t. Says v rules t (seen_leaf (D.look d.old) leaf.now)))
         (seen_reach (D.look d.new) r)) }
     ensures answered { IfOk result (λ r. AreAnswered answers.old.items answers.new.items (length r.dropped)) }
@@ -90,7 +90,7 @@ pub(crate) fn halt<S: Side, D: Symbolic, J: Drops<D>>(
     ensures same_variables { D.variables d.new ≡ D.variables d.old }
     ensures reach { IfOk result
         (λ r. (sys : System) → IsLeaf sys (under (D.look d.old stuck) (seen_leaf (D.look d.old) leaf.now)) →
-        IsReach (D.variables d.old) sys (J.Allows (D.variables d.old))
+        IsReach (D.variables d.old) sys (judged_by J.Allows J.Keeps (D.variables d.old) (D.look d.old leaf.now.condition ∷ []))
         (MovedOf (λ v rules t. Says v rules t (under (D.look d.old stuck) (seen_leaf (D.look d.old) leaf.now))))
         (seen_reach (D.look d.new) r)) }
     ensures answered { IfOk result (λ r. AreAnswered answers.old.items answers.new.items (length r.dropped)) }

@@ -1,12 +1,12 @@
 // One step more from leaves.
-ghost use Rattle.std.specs.Prelude.{◌≡◌, length, IfOk, All};
+ghost use Rattle.std.specs.Prelude.{◌≡◌, ◌∷◌, [], length, IfOk, All};
 ghost use Rattle.data_value.specs.Nodes.{Extends};
 ghost use Rattle.sort_term.specs.Problems.{AreCuts, IsProgram};
 ghost use Rattle.sort_term.specs.Step.{StepsBy};
 ghost use Rattle.sort_term.specs.Cuts.{InCut};
 ghost use Rattle.path_condition.specs.Leaves.{seen_leaf, seen_leaves, IsLeaf, Says, Gives};
 ghost use Rattle.cut_search.specs.Drops.{AreAnswered};
-ghost use Rattle.cut_search.specs.Found.{seen_reach, IsReach, NextOf};
+ghost use Rattle.cut_search.specs.Found.{seen_reach, IsReach, NextOf, judged_by, conditions_of};
 
 use crate::drops::Drops;
 use crate::halting::{halt, next};
@@ -36,7 +36,7 @@ pub(crate) fn level<S: Side, D: Symbolic, J: Drops<D>>(
     ensures extends { Extends (D.look d.old) (D.look d.new) }
     ensures same_variables { D.variables d.new ≡ D.variables d.old }
     ensures reach { IfOk result
-        (λ r. IsReach (D.variables d.old) semantics.now (J.Allows (D.variables d.old))
+        (λ r. IsReach (D.variables d.old) semantics.now (judged_by J.Allows J.Keeps (D.variables d.old) (conditions_of (D.look d.old) leaves.now))
         (NextOf (StepsBy semantics.now program.now) (InCut semantics.now.cons cuts.now)
         (λ v rules t. Gives v rules t (seen_leaves (D.look d.old) leaves.now)))
         (seen_reach (D.look d.new) r)) }
@@ -67,7 +67,7 @@ fn advance<S: Side, D: Symbolic, J: Drops<D>>(
     ensures extends { Extends (D.look d.old) (D.look d.new) }
     ensures same_variables { D.variables d.new ≡ D.variables d.old }
     ensures reach { IfOk result
-        (λ r. IsReach (D.variables d.old) semantics.now (J.Allows (D.variables d.old))
+        (λ r. IsReach (D.variables d.old) semantics.now (judged_by J.Allows J.Keeps (D.variables d.old) (D.look d.old leaf.now.condition ∷ []))
         (NextOf (StepsBy semantics.now program.now) (InCut semantics.now.cons cuts.now)
         (λ v rules t. Says v rules t (seen_leaf (D.look d.old) leaf.now)))
         (seen_reach (D.look d.new) r)) }

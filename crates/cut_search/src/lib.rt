@@ -1,8 +1,6 @@
 //! The runs from a configuration with unknowns up to the cut, for all values of the unknowns at once.
 #![tactic(auto)]
 
-mod conditions;
-mod cover;
 mod dropping;
 mod drops;
 mod exact;
@@ -10,9 +8,10 @@ mod halting;
 mod levels;
 mod reach;
 mod sifting;
+mod simpler;
 mod splitting;
 
-pub use cover::outside;
+pub use cut_cover::outside;
 pub use dropping::search_dropping;
 pub use drops::Drops;
 pub use exact::{Decider, search};

@@ -1,19 +1,19 @@
 // Leaves that are kept, and leaves that are dropped.
-ghost use Rattle.std.specs.Prelude.{◌≡◌, ◌↔◌, ℕ, true, false, List, [], ◌∷◌, length, if◌then◌else◌, Some, IfOk, IsTrue};
-ghost use Rattle.data_value.specs.declared.Value.{Value};
+ghost use Rattle.std.specs.Prelude.{◌≡◌, true, false, [], ◌∷◌, length, if◌then◌else◌, IfOk, IsTrue};
 ghost use Rattle.data_value.specs.Nodes.{Extends};
-ghost use Rattle.data_value.specs.Truth.{IsCondition, IsKnownAs, truth};
+ghost use Rattle.data_value.specs.Truth.{IsCondition, truth};
 ghost use Rattle.sort_term.specs.System.{System};
 ghost use Rattle.sort_term.specs.NodeTerms.{seen_term, is_valid_term};
 ghost use Rattle.path_condition.specs.Leaves.{seen_leaf, seen_leaves, IsLeaf, Says};
 ghost use Rattle.cut_search.specs.Drops.{AreAnswered};
-ghost use Rattle.cut_search.specs.Found.{under, IsSifted};
+ghost use Rattle.cut_search.specs.Found.{under, IsSifted, judged_by};
 
 use crate::drops::Drops;
-use data_value::conditions::{both, known_truth};
-use data_value::{Domain, Symbolic};
+use data_value::conditions::{both, is_known_false, known_truth};
+use data_value::{Symbolic, is_same};
 use no_memory::NoMemory;
 use path_condition::{Leaf, Leaves};
+use simplify::simplify;
 use sort_term::{Config, Side};
 use sqlite_items::Items;
 use std::alloc::Global;
@@ -46,7 +46,7 @@ pub(crate) fn part<S: Side, D: Symbolic, J: Drops<D>>(
     ensures same_variables { D.variables d.new ≡ D.variables d.old }
     ensures sifted { IfOk result
         (λ s. (sys : System) → IsLeaf sys (seen_leaf (D.look d.old) leaf.now) →
-        IsSifted (D.variables d.old) sys (J.Allows (D.variables d.old))
+        IsSifted (D.variables d.old) sys (judged_by J.Allows J.Keeps (D.variables d.old) (D.look d.old before.now ∷ []))
         (λ v rules t. Says v rules t (seen_leaf (D.look d.old) leaf.now) × (truth (D.look d.old condition.now) v ≡ true))
         (seen_leaves (D.look d.new) s.kept) (seen_leaves (D.look d.new) s.dropped)) }
     ensures answered { IfOk result (λ s. AreAnswered answers.old.items answers.new.items (length s.dropped)) }
@@ -55,7 +55,7 @@ pub(crate) fn part<S: Side, D: Symbolic, J: Drops<D>>(
     Ok(sift(alloc, d, judge, answers, before, leaf, condition)?)
 }
 
-/// The leaf under another condition: left out if that is known to be false, else kept or dropped.
+/// The leaf under another condition, in a simpler form: left out if that is known to be false, else kept or dropped.
 pub(crate) fn sift<S: Side, D: Symbolic, J: Drops<D>>(
     alloc: Global,
     d: &mut D,
@@ -72,7 +72,33 @@ pub(crate) fn sift<S: Side, D: Symbolic, J: Drops<D>>(
     ensures same_variables { D.variables d.new ≡ D.variables d.old }
     ensures sifted { IfOk result
         (λ s. (sys : System) → IsLeaf sys (under (D.look d.old condition) (seen_leaf (D.look d.old) leaf.now)) →
-        IsSifted (D.variables d.old) sys (J.Allows (D.variables d.old))
+        IsSifted (D.variables d.old) sys (judged_by J.Allows J.Keeps (D.variables d.old) (D.look d.old before.now ∷ []))
+        (λ v rules t. Says v rules t (under (D.look d.old condition) (seen_leaf (D.look d.old) leaf.now)))
+        (seen_leaves (D.look d.new) s.kept) (seen_leaves (D.look d.new) s.dropped)) }
+    ensures answered { IfOk result (λ s. AreAnswered answers.old.items answers.new.items (length s.dropped)) }
+{
+    let simpler = simplify(alloc, d, &condition)?;
+    Ok(sift_as_it_is(alloc, d, judge, answers, before, leaf, simpler)?)
+}
+
+// The leaf under another condition, as that is.
+fn sift_as_it_is<S: Side, D: Symbolic, J: Drops<D>>(
+    alloc: Global,
+    d: &mut D,
+    judge: &mut J,
+    answers: &mut Vec<bool>,
+    before: &D::Node,
+    leaf: &Leaf<S, D::Node>,
+    condition: D::Node,
+) -> Result<Sifted<S, D::Node>, NoMemory>
+    requires before { IsCondition (D.look d.old before.now) }
+    requires state { IsTrue (is_valid_term (seen_term (D.look d.old) leaf.now.config.term)) }
+    requires condition { IsCondition (D.look d.old condition) }
+    ensures extends { Extends (D.look d.old) (D.look d.new) }
+    ensures same_variables { D.variables d.new ≡ D.variables d.old }
+    ensures sifted { IfOk result
+        (λ s. (sys : System) → IsLeaf sys (under (D.look d.old condition) (seen_leaf (D.look d.old) leaf.now)) →
+        IsSifted (D.variables d.old) sys (judged_by J.Allows J.Keeps (D.variables d.old) (D.look d.old before.now ∷ []))
         (λ v rules t. Says v rules t (under (D.look d.old condition) (seen_leaf (D.look d.old) leaf.now)))
         (seen_leaves (D.look d.new) s.kept) (seen_leaves (D.look d.new) s.dropped)) }
     ensures answered { IfOk result (λ s. AreAnswered answers.old.items answers.new.items (length s.dropped)) }
@@ -113,15 +139,6 @@ fn sorted<S: Side, N: Drop>(
     }
 }
 
-// Whether a condition is known to be true under no valuation.
-fn is_known_false<D: Domain>(d: &D, condition: &D::Node) -> bool
-    requires { IsCondition (D.look d.now condition.now) }
-    ensures known { IsTrue result ↔ IsKnownAs false (D.look d.now condition.now) }
-    ensures means { IsTrue result → (v : List Value) → truth (D.look d.now condition.now) v ≡ false }
-{
-    known_truth(d, condition) == Some(false)
-}
-
 // Whether paths under a condition are dropped. It is asked only where that is new: where the condition isn't known, and isn't
 // that of the path before.
 fn is_dropped<D: Symbolic, J: Drops<D>>(
@@ -136,27 +153,16 @@ fn is_dropped<D: Symbolic, J: Drops<D>>(
     requires condition { IsCondition (D.look d.old condition.now) }
     ensures extends { Extends (D.look d.old) (D.look d.new) }
     ensures same_variables { D.variables d.new ≡ D.variables d.old }
-    ensures allowed { IfOk result (λ dropped. IsTrue dropped → J.Allows (D.variables d.old) (D.look d.old condition.now)) }
+    ensures judged { IfOk result
+        (λ dropped. judged_by J.Allows J.Keeps (D.variables d.old) (D.look d.old before.now ∷ []) dropped (D.look d.old condition.now)) }
     ensures answered { IfOk result (λ dropped. AreAnswered answers.old.items answers.new.items (if dropped then 1 else 0)) }
 {
     if known_truth(d, condition).is_some() || is_same(d, before, condition) {
         return Ok(false);
     }
-    let dropped = judge.drops(alloc, d, answers.len(), condition)?;
+    let dropped = judge.drops(alloc, d, answers.as_slice(), before, condition)?;
     answers.push(dropped)?;
     Ok(dropped)
-}
-
-// Whether two nodes are kept under one number, and so are the same.
-fn is_same<D: Symbolic>(d: &D, a: &D::Node, b: &D::Node) -> bool
-    requires first { IsTrue (D.look d.now a.now).valid }
-    requires second { IsTrue (D.look d.now b.now).valid }
-    ensures { IsTrue result ↔ ((i : ℕ) × ((D.look d.now a.now).id ≡ Some i) × ((D.look d.now b.now).id ≡ Some i)) }
-{
-    match (d.id(a), d.id(b)) {
-        (Some(first), Some(second)) => first == second,
-        _ => false,
-    }
 }
 
 // A leaf with the state and the rules of another, under another condition. Each leaf that a search makes of a step is made here.

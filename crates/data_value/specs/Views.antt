@@ -81,6 +81,10 @@ pub record IsViewed {N : Type 0} (look : N → Seen N) (variables : List DataSor
   -- nodes that are kept under one number are the same in all that they are
   pub one_by_id : (m n : N) (i : ℕ) → IsTrue (look m).valid → IsTrue (look n).valid → (look m).id ≡ Some i → (look n).id ≡ Some i → look m ≡ look n
 
+-- Two nodes that are kept under one number.
+abbrev pub HaveOneId : {N : Type 0} → Seen N → Seen N → Type 0
+HaveOneId s t = (i : ℕ) × (s.id ≡ Some i) × (t.id ≡ Some i)
+
 -- A node that means the value of the variable i.
 pub record IsVariable {N : Type 0} (look : N → Seen N) (variables : List DataSort) (i : ℕ) (n : N) : Type 0 where
   pub valid : IsTrue (look n).valid

@@ -1,6 +1,6 @@
 //! Conditions, which are nodes that mean truth values, and how they are joined. What is known of them is folded, so a
 //! condition whose parts are all known is known.
-ghost use Rattle.std.specs.Prelude.{◌≡◌, ◌&&◌, ◌||◌, Bool, List, true, false, not, map, All, IsTrue, IfOk, IfSome, MatchOption, Some, None};
+ghost use Rattle.std.specs.Prelude.{◌≡◌, ◌↔◌, ◌&&◌, ◌||◌, Bool, List, true, false, not, map, All, IsTrue, IfOk, IfSome, MatchOption, Some, None};
 ghost use Rattle.data_value.specs.declared.Scalar.{Scalar as ScalarOf};
 ghost use Rattle.data_value.specs.declared.Value.{Value as ValueOf};
 ghost use Rattle.data_value.specs.Sorts.{is_scalar_sort};
@@ -24,6 +24,15 @@ pub fn known_truth<D: Domain>(d: &D, a: &D::Node) -> Option<bool>
         Some(Scalar::Bits { .. }) => unreachable!(),
         None => None,
     }
+}
+
+/// Whether a condition is known to be false under every valuation. It takes no memory.
+pub fn is_known_false<D: Domain>(d: &D, condition: &D::Node) -> bool
+    requires { IsCondition (D.look d.now condition.now) }
+    ensures known { IsTrue result ↔ IsKnownAs false (D.look d.now condition.now) }
+    ensures means { IsTrue result → (v : List ValueOf) → truth (D.look d.now condition.now) v ≡ false }
+{
+    known_truth(d, condition) == Some(false)
 }
 
 /// A condition that has this truth value under every valuation. It fails only for want of memory.

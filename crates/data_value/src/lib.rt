@@ -29,7 +29,7 @@ pub use no_memory::NoMemory;
 pub use scalars::apply_scalar;
 pub use sorts::{is_sort, same_sort, sort_of};
 use sqlite_items::Items;
-pub use symbolic::{Symbolic, View};
+pub use symbolic::{Symbolic, View, is_same};
 
 /// The sort of a value. Every width is from 1 to 64.
 #[derive(Clone, Copy, Debug, Drop, PartialEq, Eq, Hash)]

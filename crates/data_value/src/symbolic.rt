@@ -1,8 +1,8 @@
 //! Domains with variables, whose nodes may be looked into.
-ghost use Rattle.std.specs.Prelude.{◌≡◌, ◌<◌, [], ◌∷◌, ◌++◌, length, IsTrue, IfOk, OnOk};
+ghost use Rattle.std.specs.Prelude.{◌≡◌, ◌<◌, [], ◌∷◌, ◌++◌, ◌↔◌, length, IsTrue, IfOk, OnOk};
 ghost use Rattle.data_value.specs.Sorts.{IsSort};
 ghost use Rattle.data_value.specs.Nodes.{Extends};
-ghost use Rattle.data_value.specs.Views.{shown_in, BeginsWith, IsVariable, IsViewed};
+ghost use Rattle.data_value.specs.Views.{shown_in, BeginsWith, HaveOneId, IsVariable, IsViewed};
 
 use crate::{DataSort, Domain, NoMemory, Op, Value};
 
@@ -51,4 +51,17 @@ pub trait Symbolic: Domain {
 
     /// A node is what it shows, its arguments stand lower, and nodes that are kept under one number are the same.
     ghost views: { (d : Self) → IsViewed (Self.look d) (Self.variables d) };
+}
+
+/// Whether two nodes are kept under one number. Then they are the same in all that they are. It takes no memory.
+pub fn is_same<D: Symbolic>(d: &D, a: &D::Node, b: &D::Node) -> bool
+    requires first { IsTrue (D.look d.now a.now).valid }
+    requires second { IsTrue (D.look d.now b.now).valid }
+    ensures one { IsTrue result ↔ HaveOneId (D.look d.now a.now) (D.look d.now b.now) }
+    ensures same { IsTrue result → D.look d.now a.now ≡ D.look d.now b.now }
+{
+    match (d.id(a), d.id(b)) {
+        (Some(first), Some(second)) => first == second,
+        _ => false,
+    }
 }

@@ -11,7 +11,7 @@ use Rattle.sort_term.specs.System.{System}
 use Rattle.sort_term.specs.Tree.{Tree, Trees, pattern_value}
 use Rattle.sort_term.specs.Sorted.{pattern_sort}
 use Rattle.sort_term.specs.Step.{IsState}
-use Rattle.sort_term.specs.Cuts.{AllTrue, Covers}
+use Rattle.sort_term.specs.Cuts.{AllTrue, Covers, IsCovered}
 use Rattle.sort_term.specs.Problems.{IsCut}
 use Rattle.sort_term.specs.NodeTerms.{seen_term, seen_sort}
 use Rattle.sort_term.proofs.Declared.{declares, only_in}
@@ -24,7 +24,6 @@ use Rattle.unify.proofs.Filled.{filled, filled_agrees, filled_long, agreeing_fit
 use Rattle.unify.proofs.Lists.{all_mapped}
 use Rattle.ground_step.specs.GroundBinds.{ground_binds, AgreesGround, Restricts}
 use Rattle.ground_step.specs.Ready.{IsEvaluable}
-use Rattle.ground_step.specs.Steps.{IsCovered}
 use Rattle.ground_step.proofs.Taken.{no_values}
 
 module _ {S : Type 0} (sys : System) (item : Cut S) (s : Tree) (checked : IsCut sys item) (state : IsState sys s) where

@@ -4,9 +4,8 @@ use Rattle.std.proofs.lemmas.Option.{slice_get_within, get_or_from_slice_get}
 use Rattle.sort_term.specs.declared.semantics.Con.{Con}
 use Rattle.sort_term.specs.declared.points.Cut.{Cut}
 use Rattle.sort_term.specs.Tree.{Tree}
-use Rattle.sort_term.specs.Cuts.{InCut}
+use Rattle.sort_term.specs.Cuts.{InCut, IsCovered}
 use Rattle.sort_term.proofs.Standing.{get-some}
-use Rattle.ground_step.specs.Steps.{IsCovered}
 
 module _ {S : Type 0} (cons : List Con) (cuts : List (Cut S)) (s : Tree) where
   pub item_in : (i : ℕ) (item : Cut S) → i < length cuts → item ≡ get_or cuts i item → IsCovered cons item s → InCut cons cuts s

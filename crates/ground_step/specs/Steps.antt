@@ -5,12 +5,9 @@ use Rattle.data_value.specs.declared.Scalar.TheVariants.{Flag}
 use Rattle.data_value.specs.declared.Value.{Value}
 use Rattle.data_value.specs.declared.Value.TheVariants.{One}
 use Rattle.sort_term.specs.declared.term.Config.{Config}
-use Rattle.sort_term.specs.declared.semantics.Con.{Con}
-use Rattle.sort_term.specs.declared.points.Cut.{Cut}
-use Rattle.sort_term.specs.Tree.{Tree, Trees}
+use Rattle.sort_term.specs.Tree.{Tree}
 use Rattle.sort_term.specs.System.{System}
 use Rattle.sort_term.specs.Step.{Tables, StepsBy}
-use Rattle.sort_term.specs.Cuts.{Covers}
 use Rattle.unify.specs.declared.branch.Branch.{Branch}
 use Rattle.ground_step.specs.declared.run.RunStep.{RunStep}
 
@@ -45,7 +42,3 @@ pub record AreSteps (sys : System) (tables : Tables) (s : Tree) (steps : List (�
   pub complete : (n : ℕ) (t : Tree) → StepsBy sys tables n s t → Contains steps (n, t)
   -- no rule twice, and each after those with smaller numbers
   pub rising : AllPairs (λ x y. x.0 < y.0) steps
-
--- an item of the cut covers s under some valuation
-abbrev pub IsCovered : {S : Type 0} → List Con → Cut S → Tree → Type 0
-IsCovered cons item s = (v : Trees) × Covers cons item v s

@@ -1,9 +1,9 @@
 // Steps of a state, and whether it is in the cut.
 ghost use Rattle.std.specs.Prelude.{◌↔◌, ◌<◌, All, IfOk, IsTrue, MatchOption, length, option_map};
 ghost use Rattle.sort_term.specs.Step.{IsState};
-ghost use Rattle.sort_term.specs.Cuts.{InCut};
+ghost use Rattle.sort_term.specs.Cuts.{InCut, IsCovered};
 ghost use Rattle.sort_term.specs.Problems.{AreCuts, IsCut, IsProgram};
-ghost use Rattle.ground_step.specs.Steps.{AreSteps, IsCovered, IsTrueBranch, IsTrueBranchAt, StepIs, steps_of, term_of};
+ghost use Rattle.ground_step.specs.Steps.{AreSteps, IsTrueBranch, IsTrueBranchAt, StepIs, steps_of, term_of};
 
 use crate::conditions::{all_hold, all_true, is_true};
 use crate::run::{RunStep, RunSteps};

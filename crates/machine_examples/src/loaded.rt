@@ -165,9 +165,10 @@ pub(crate) fn loaded_left_cuts(
     let Points {
         left_cuts,
         right_cuts,
+        undefs,
         points,
     } = loaded?;
-    drop((right_cuts, points));
+    drop((right_cuts, undefs, points));
     Ok(left_cuts)
 }
 

@@ -6,8 +6,7 @@ ghost use Rattle.data_value.specs.Nodes.{sorts_of};
 ghost use Rattle.simplify.specs.Rewrites.{IsRewritten};
 
 use crate::rewritten::Rewritten;
-use crate::same::is_same;
-use data_value::{NoMemory, Op, Scalar, Symbolic};
+use data_value::{NoMemory, Op, Scalar, Symbolic, is_same};
 
 /// What an operator at three nodes comes to, if a rewrite finds it.
 pub(crate) fn choice<D: Symbolic>(

@@ -7,9 +7,8 @@ ghost use Rattle.simplify.specs.Rewrites.{IsRewritten};
 ghost use Rattle.simplify.specs.Division.{MeansOf, IsMultiple, IsDividend, IsWhole};
 
 use crate::rewritten::Rewritten;
-use crate::same::is_same;
 use crate::split::split_word;
-use data_value::{NoMemory, Op, Symbolic, View};
+use data_value::{NoMemory, Op, Symbolic, View, is_same};
 
 /// What a sum comes to of the multiple of a quotient and the remainder: the dividend.
 pub(crate) fn of_division<D: Symbolic>(

@@ -6,19 +6,7 @@ ghost use Rattle.data_value.specs.Nodes.{sorts_of};
 ghost use Rattle.simplify.specs.Rewrites.{IsRewritten, IsIdempotent, IsScalarAtSame, word_at};
 
 use crate::rewritten::Rewritten;
-use data_value::{DataSort, NoMemory, Op, Scalar, Symbolic};
-
-/// Whether two nodes are kept under one number. Then they are the same in all that they are.
-pub(crate) fn is_same<D: Symbolic>(d: &D, a: &D::Node, b: &D::Node) -> bool
-    requires first { IsTrue (D.look d.now a.now).valid }
-    requires second { IsTrue (D.look d.now b.now).valid }
-    ensures { result ≡ true → D.look d.now a.now ≡ D.look d.now b.now }
-{
-    match (d.id(a), d.id(b)) {
-        (Some(first), Some(second)) => first == second,
-        _ => false,
-    }
-}
+use data_value::{DataSort, NoMemory, Op, Scalar, Symbolic, is_same};
 
 /// Whether two nodes mean one word under every valuation, or different ones under every valuation, if that is known.
 pub(crate) fn same_word<D: Symbolic>(d: &D, a: &D::Node, b: &D::Node) -> Option<bool>

@@ -2,9 +2,8 @@
 ghost use Rattle.std.specs.Prelude.{◌≡◌, ◌-◌, ◌^◌, true, IsTrue, IfOk, IfSome};
 ghost use Rattle.simplify.specs.Split.{IsKnownWord, IsMovedDown, IsCleared, IsSplit};
 
-use crate::same::is_same;
 use crate::sums::ones;
-use data_value::{NoMemory, Op, Scalar, Symbolic, View};
+use data_value::{NoMemory, Op, Scalar, Symbolic, View, is_same};
 
 /// The word of which one node is the upper bits, and the other is the lower ones.
 pub(crate) fn split_word<D: Symbolic>(

@@ -19,6 +19,10 @@ pub record Covers {S : Type 0} (cons : List Con) (item : Cut S) (v : Trees) (s :
   pub pattern : pattern_value v item.pattern ≡ s
   pub whens : AllTrue v item.whens
 
+-- some valuation of the item's variables makes it cover s
+abbrev pub IsCovered : {S : Type 0} → List Con → Cut S → Tree → Type 0
+IsCovered cons item s = (v : Trees) × Covers cons item v s
+
 -- in the cut: some item of the cut covers s under some valuation
 pub record InCut {S : Type 0} (cons : List Con) (cuts : List (Cut S)) (s : Tree) : Type 0 where
   pub place : ℕ

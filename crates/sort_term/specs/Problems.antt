@@ -66,6 +66,11 @@ pub record AreCuts {S : Type 0} (s : System) (items : List (Cut S)) : Type 0 whe
   pub distinct : AreDistinct (λ c. c.name) items
   pub each : All (IsCut s) items
 
+-- the places of the undefined items of a cut: each is that of an item, and they rise
+pub record AreUndefs {S : Type 0} (items : List (Cut S)) (places : List ℕ) : Type 0 where
+  pub there : All (λ k. k < length items) places
+  pub rising : AllPairs (λ j k. j < k) places
+
 -- an expression over these variables of the configuration sort of a semantics
 abbrev pub IsConfigExpr : System → List Var → RuleExpr → Type 0
 IsConfigExpr s vars e = IsExprOf s.cons vars (Own s.config) e
@@ -100,4 +105,5 @@ pub record IsProblem (left right : System) (left_program right_program : Tables)
   pub right_rows : IsProgram right right_program
   pub left_cuts : AreCuts left points.left_cuts
   pub right_cuts : AreCuts right points.right_cuts
+  pub undefs : AreUndefs points.left_cuts points.undefs
   pub fitting_points : ArePoints left right points.points

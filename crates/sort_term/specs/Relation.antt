@@ -1,13 +1,16 @@
 -- The relation of the points, and what can be wrong with a point.
 use Rattle.std.specs.Prelude.{◌≡◌, ℕ, [], slice_get, Some}
+use Rattle.std.specs.List.{Any}
+use Rattle.sort_term.specs.declared.points.Cut.{Cut}
 use Rattle.sort_term.specs.declared.points.Point.{Point}
+use Rattle.sort_term.specs.declared.term.Left.{Left}
 use Rattle.sort_term.specs.declared.problem.Problem.{Problem}
 use Rattle.sort_term.specs.Tree.{Tree, Trees, value}
 use Rattle.sort_term.specs.Sorted.{IsValuationOf}
 use Rattle.sort_term.specs.Step.{StepsBy}
 use Rattle.sort_term.specs.Runs.{Succeeds}
 use Rattle.sort_term.specs.StateSets.{IsVoid, IsOutside, RunsLong, Halts}
-use Rattle.sort_term.specs.Cuts.{AllTrue, InCut}
+use Rattle.sort_term.specs.Cuts.{AllTrue, InCut, IsCovered}
 
 -- p is the point of the problem with the number k, counted from 0 in the order of the text
 abbrev pub IsPoint : Problem → ℕ → Point → Type 0
@@ -56,6 +59,10 @@ StepsOf q right = StepsBy q.right q.right_program
 abbrev pub InCutOf : Problem → Side → Tree → Type 0
 InCutOf q left = InCut q.left.cons q.points.left_cuts
 InCutOf q right = InCut q.right.cons q.points.right_cuts
+
+-- undefined: some undefined item of the left cut covers the left state s
+abbrev pub IsUndefined : Problem → Tree → Type 0
+IsUndefined q s = Any (λ k. (item : Cut Left) × (slice_get q.points.left_cuts k ≡ Some item) × IsCovered q.left.cons item s) q.points.undefs
 
 abbrev pub SucceedsOf : Problem → Side → Tree → Tree → Type 0
 SucceedsOf q side = Succeeds (StepsOf q side) (InCutOf q side)

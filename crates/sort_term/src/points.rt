@@ -1,5 +1,6 @@
 use crate::rule::{Pattern, RuleExpr, RuleExprs, Vars};
 use crate::term::{Left, Right, Side};
+use data_value::Places;
 use sexp_text::Name;
 use sqlite_items::Items;
 use std::marker::PhantomData;
@@ -47,6 +48,8 @@ pub struct Points {
     pub left_cuts: Cuts<Left>,
     /// The cut of the right side.
     pub right_cuts: Cuts<Right>,
+    /// Which items of the left cut stand for undefined states: their places in it, counted from 0 and rising.
+    pub undefs: Places,
     /// The points.
     pub points: PointList,
 }

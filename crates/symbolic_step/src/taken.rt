@@ -1,15 +1,14 @@
 // The leaf of one branch.
-ghost use Rattle.std.specs.Prelude.{◌≡◌, ◌↔◌, IfOk, IsTrue, List, false};
-ghost use Rattle.data_value.specs.declared.Value.{Value};
+ghost use Rattle.std.specs.Prelude.{◌≡◌, IfOk, IsTrue, false};
 ghost use Rattle.data_value.specs.Nodes.{Extends};
-ghost use Rattle.data_value.specs.Truth.{IsCondition, IsKnownAs, truth};
+ghost use Rattle.data_value.specs.Truth.{IsCondition};
 ghost use Rattle.sort_term.specs.NodeTerms.{seen_term, is_valid_term};
 ghost use Rattle.unify.specs.Branches.{seen_branch};
 ghost use Rattle.symbolic_step.specs.OneStep.{seen_path};
 ghost use Rattle.symbolic_step.specs.Ends.{IsTakenTo};
 
 use data_value::Domain;
-use data_value::conditions::known_truth;
+use data_value::conditions::is_known_false;
 use no_memory::NoMemory;
 use path_condition::{Leaf, Path, extend};
 use sort_term::{Config, RuleId, Side};
@@ -43,13 +42,4 @@ pub(crate) fn taken<S: Side, D: Domain>(
         condition,
         rules,
     }))
-}
-
-// Whether a condition is known to be true under no valuation.
-fn is_known_false<D: Domain>(d: &D, condition: &D::Node) -> bool
-    requires { IsCondition (D.look d.now condition.now) }
-    ensures known { IsTrue result ↔ IsKnownAs false (D.look d.now condition.now) }
-    ensures means { IsTrue result → (v : List Value) → truth (D.look d.now condition.now) v ≡ false }
-{
-    known_truth(d, condition) == Some(false)
 }

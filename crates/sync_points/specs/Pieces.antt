@@ -36,7 +36,7 @@ points_code =
 
 -- no cuts and no points
 abbrev pub nothing : Points
-nothing = record { left_cuts = []; right_cuts = []; points = [] }
+nothing = record { left_cuts = []; right_cuts = []; undefs = []; points = [] }
 
 -- before the first item there are none
 abbrev pub no_points : System → System → PointsOf
@@ -48,9 +48,9 @@ no_names = record { sorts = []; cons = []; tables = [] }
 
 -- one thing more
 abbrev pub points_with : Points → Piece → Points
-points_with p (piece.LeftCut c) = record { left_cuts = p.left_cuts ++ c ∷ []; right_cuts = p.right_cuts; points = p.points }
-points_with p (piece.RightCut c) = record { left_cuts = p.left_cuts; right_cuts = p.right_cuts ++ c ∷ []; points = p.points }
-points_with p (piece.Point q) = record { left_cuts = p.left_cuts; right_cuts = p.right_cuts; points = p.points ++ q ∷ [] }
+points_with p (piece.LeftCut c) = record { left_cuts = p.left_cuts ++ c ∷ []; right_cuts = p.right_cuts; undefs = p.undefs; points = p.points }
+points_with p (piece.RightCut c) = record { left_cuts = p.left_cuts; right_cuts = p.right_cuts ++ c ∷ []; undefs = p.undefs; points = p.points }
+points_with p (piece.Point q) = record { left_cuts = p.left_cuts; right_cuts = p.right_cuts; undefs = p.undefs; points = p.points ++ q ∷ [] }
 
 abbrev pub with_piece : PointsOf → Piece → PointsOf
 with_piece d p = record { left = d.left; right = d.right; points = points_with d.points p }

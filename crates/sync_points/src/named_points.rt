@@ -46,6 +46,7 @@ impl NamedPoints {
             all: Points {
                 left_cuts: Items::new(alloc),
                 right_cuts: Items::new(alloc),
+                undefs: Items::new(alloc),
                 points: Items::new(alloc),
             },
         }
@@ -119,6 +120,7 @@ impl NamedPoints {
         let Points {
             left_cuts,
             right_cuts,
+            undefs,
             points,
         } = all;
         match left_names.with_one(alloc, left_cuts, cut) {
@@ -129,11 +131,12 @@ impl NamedPoints {
                 all: Points {
                     left_cuts,
                     right_cuts,
+                    undefs,
                     points,
                 },
             }),
             Err(refused) => {
-                drop((right_names, point_names, right_cuts, points));
+                drop((right_names, point_names, right_cuts, undefs, points));
                 Err(refused)
             }
         }
@@ -153,6 +156,7 @@ impl NamedPoints {
         let Points {
             left_cuts,
             right_cuts,
+            undefs,
             points,
         } = all;
         match right_names.with_one(alloc, right_cuts, cut) {
@@ -163,11 +167,12 @@ impl NamedPoints {
                 all: Points {
                     left_cuts,
                     right_cuts,
+                    undefs,
                     points,
                 },
             }),
             Err(refused) => {
-                drop((left_names, point_names, left_cuts, points));
+                drop((left_names, point_names, left_cuts, undefs, points));
                 Err(refused)
             }
         }
@@ -187,6 +192,7 @@ impl NamedPoints {
         let Points {
             left_cuts,
             right_cuts,
+            undefs,
             points,
         } = all;
         match point_names.with_one(alloc, points, point) {
@@ -197,11 +203,12 @@ impl NamedPoints {
                 all: Points {
                     left_cuts,
                     right_cuts,
+                    undefs,
                     points,
                 },
             }),
             Err(refused) => {
-                drop((left_names, right_names, left_cuts, right_cuts));
+                drop((left_names, right_names, left_cuts, right_cuts, undefs));
                 Err(refused)
             }
         }

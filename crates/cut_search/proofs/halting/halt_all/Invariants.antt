@@ -3,7 +3,7 @@ use Rattle.data_value.specs.Nodes.{Extends}
 use Rattle.sort_term.specs.Step.{StepsBy}
 use Rattle.path_condition.specs.Leaves.{seen_leaves, Gives}
 use Rattle.cut_search.specs.Drops.{AreAnswered}
-use Rattle.cut_search.specs.Found.{seen_reach, IsReach, StopsOf}
+use Rattle.cut_search.specs.Found.{seen_reach, IsReach, StopsOf, judged_by, conditions_of}
 use Rattle.cut_search.proofs.halting.halt_all.Given as goal
 
 -- each leaf so far that can make no step is there
@@ -15,6 +15,6 @@ invariant-loop-leaf g l =
     record {
       extends : Extends first (look l.d);
       same_variables : g.D.Domain.variables l.d ≡ variables;
-      reach : IsReach variables l.semantics (g.J.Drops.Allows variables) (StopsOf (StepsBy l.semantics l.program) (λ v rules t. Gives v rules t (take l.leaf-index (seen_leaves first l.leaves)))) (seen_reach (look l.d) l.reach);
+      reach : IsReach variables l.semantics (judged_by g.J.Drops.Allows g.J.Drops.Keeps variables (conditions_of first l.leaves)) (StopsOf (StepsBy l.semantics l.program) (λ v rules t. Gives v rules t (take l.leaf-index (seen_leaves first l.leaves)))) (seen_reach (look l.d) l.reach);
       answered : AreAnswered l.fn.answers.items l.answers.items (length l.reach.dropped);
     }

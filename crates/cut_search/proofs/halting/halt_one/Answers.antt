@@ -1,10 +1,10 @@
-use Rattle.std.proofs.Common.{subst}
+use Rattle.std.proofs.Common.{subst, [], ◌∷◌}
 use Rattle.sort_term.specs.Step.{StepsBy}
 use Rattle.data_value.proofs.Grown.{extends-both}
 use Rattle.path_condition.specs.Leaves.{seen_leaf, Says}
 use Rattle.path_condition.proofs.LeafLemmas.{leaf_stays}
-use Rattle.cut_search.specs.Found.{under, seen_reach, IsReach, MovedOf}
-use Rattle.cut_search.proofs.Kept.{leaf_later, leaf_valid, under_leaf, reach_now, moved_stops}
+use Rattle.cut_search.specs.Found.{under, seen_reach, IsReach, MovedOf, judged_by}
+use Rattle.cut_search.proofs.Kept.{leaf_later, leaf_valid, under_leaf, reach_now, moved_stops, one_before}
 use Rattle.cut_search.proofs.halting.halt_one.Goals as goal
 
 pub halt-requires-clause-leaf : goal.halt-requires-clause-leaf
@@ -21,7 +21,7 @@ pub returns-clause-reach : goal.returns-clause-reach
 returns-clause-reach g c =
     let look = g.D.Domain.look in
     let variables = g.D.Domain.variables c.args.d.now in
-    let Allows = g.J.Drops.Allows in
+    let Judged = judged_by g.J.Drops.Allows g.J.Drops.Keeps in
     let sys = c.args.semantics.now in
     let before = look c.args.d.now in
     let now = look c.next.new.d in
@@ -31,6 +31,6 @@ returns-clause-reach g c =
     let stuck = c.in_ok-found.ensures.stuck in
     let r = seen_reach (look c.halt.new.d) c.in_ok-halt.field-0 in
     let made = c.in_ok-halt.ensures.reach sys (under_leaf sys s (seen_leaf now leaf) stuck.condition (leaf_later before now c.next.ensures.extends sys leaf c.requires.leaf)) in
-    let here = reach_now variables (g.D.Domain.variables c.next.new.d) c.next.ensures.same_variables sys Allows (MovedOf (λ v rules t. Says v rules t (under s (seen_leaf now leaf)))) r made in
-    moved_stops variables sys (Allows variables) (StepsBy sys c.args.program.now) l s stuck r
-    (subst (λ k. IsReach variables sys (Allows variables) (MovedOf (λ v rules t. Says v rules t (under s k))) r) (leaf_stays before now c.next.ensures.extends sys leaf c.requires.leaf) here)
+    let here = reach_now variables (g.D.Domain.variables c.next.new.d) c.next.ensures.same_variables (before leaf.condition ∷ []) (now leaf.condition ∷ []) (one_before before now c.next.ensures.extends leaf.condition c.requires.leaf.condition) sys Judged (MovedOf (λ v rules t. Says v rules t (under s (seen_leaf now leaf)))) r made in
+    moved_stops variables sys (Judged variables (before leaf.condition ∷ [])) (StepsBy sys c.args.program.now) l s stuck r
+    (subst (λ k. IsReach variables sys (Judged variables (before leaf.condition ∷ [])) (MovedOf (λ v rules t. Says v rules t (under s k))) r) (leaf_stays before now c.next.ensures.extends sys leaf c.requires.leaf) here)

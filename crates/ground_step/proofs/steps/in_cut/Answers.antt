@@ -1,9 +1,9 @@
 use Rattle.std.proofs.Common.{arith, ◌≡◌, ◌↔◌, ◌<◌, true, false, IsTrue, length, take, All, slice_index_or, refl, subst, sym, ◌∙◌}
 use Rattle.std.proofs.lemmas.List.{take_all}
-use Rattle.ground_step.specs.Steps.{IsCovered}
 use Rattle.ground_step.proofs.Lists.{all_more}
 use Rattle.ground_step.proofs.Cutting.{item_in, none_in}
 use Rattle.ground_step.proofs.steps.in_cut.Goals as goal
+use Rattle.sort_term.specs.Cuts.{IsCovered}
 
 pub returns-then-branch : goal.returns-then-branch
 returns-then-branch g c =

@@ -19,6 +19,7 @@ invariant_of-result c =
         right_rows = texts_load_programs right _ c.args.right_program programs.right_text;
         left_cuts = lawful.left_cuts;
         right_cuts = lawful.right_cuts;
+        undefs = lawful.undefs;
         fitting_points = lawful.points;
       };
     }

@@ -9,6 +9,7 @@ invariant_of-result c = record {
     right_rows = c.requires.right_rows;
     left_cuts = c.requires.points.left_cuts;
     right_cuts = c.requires.points.right_cuts;
+    undefs = c.requires.points.undefs;
     fitting_points = c.requires.points.points;
   };
 }

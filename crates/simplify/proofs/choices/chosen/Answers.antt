@@ -22,4 +22,4 @@ pub returns-then-is_same : goal.returns-then-is_same
 returns-then-is_same g c =
     let d = c.args.d.now in
     let look = g.D.Domain.look d in
-    choice_same look (g.D.Domain.variables d) (g.met.D.Domain.laws d) Ite c.args.condition.now c.args.first.now c.args.second.now refl c.requires.condition c.requires.first c.requires.second c.requires.sorted _ (c.is_same.ensures c.if-is_same.true) c.in_ok-copy.ensures
+    choice_same look (g.D.Domain.variables d) (g.met.D.Domain.laws d) Ite c.args.condition.now c.args.first.now c.args.second.now refl c.requires.condition c.requires.first c.requires.second c.requires.sorted _ (c.is_same.ensures.same c.if-is_same.true) c.in_ok-copy.ensures

@@ -1,0 +1,5 @@
+pub mod Differing
+pub mod Holding
+pub mod Lengthened
+pub mod Probing
+pub mod Turns
