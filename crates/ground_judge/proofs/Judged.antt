@@ -22,6 +22,7 @@ use Rattle.ground_judge.specs.Kinds.{test_of}
 use Rattle.ground_judge.specs.declared.finding.Finding.{Finding}
 use Rattle.ground_judge.specs.declared.finding.Finding.TheVariants.{Ungrounded, Grounded}
 use Rattle.ground_judge.specs.Found.{Keeps, NoEscape, FirstEscape, AreRightsMatched, IsRightUnmatched, AreLeftsMatched, IsLeftUnmatched, Finds, TellsRuns}
+use Rattle.sort_term.proofs.VerdictLemmas.{misses_fails}
 use Rattle.ground_judge.proofs.Keeping.{some_long, some_halted, no_long, no_halted, are_met, no_runs}
 use Rattle.ground_judge.proofs.Tests.{some_pair, each_pair, only_state, first_long_left, first_long_right, first_halted_left, first_halted_right}
 
@@ -43,7 +44,7 @@ pub opposite : (A B : Type 0) (b : Bool) → MatchBool b A B → MatchBool (not 
 opposite A B true h = h
 opposite A B false h = h
 
-module _ (q : Problem) (n : ℕ) (p : Point) (a b : Tree) (only : IsOnlyPair q p a b) where
+module _ (q : Problem) (n : ℕ) (p : Point) (a b : Tree) (only : IsOnlyPair q p a b) (defined : q.points.undefs ≡ []) where
   module _ (lefts rights : List StartedRun) (kl : Keeps (StepsOf q left) (InCutOf q left) n a lefts) (kr : Keeps (StepsOf q right) (InCutOf q right) n b rights) where
     well : IsWellGroundedAt q n p
     well = record {
@@ -89,11 +90,11 @@ module _ (q : Problem) (n : ℕ) (p : Point) (a b : Tree) (only : IsOnlyPair q p
 
     right_unmatched : IsRightUnmatched q lefts rights → RightFails q p
     right_unmatched u =
-        some_pair q n p a b only (λ c d. (b' : Tree) × SucceedsOf q right d b' × ((a' : Tree) → SucceedsOf q left c a' → ¬ Related q a' b')) (
+        misses_fails q p defined (some_pair q n p a b only (λ c d. (b' : Tree) × SucceedsOf q right d b' × ((a' : Tree) → SucceedsOf q left c a' → ¬ Related q a' b')) (
           end_of u.1,
           All-contains (λ x. SucceedsOf q right b (end_of x)) rights u.1 (ends q right b rights kr.1.exactly) (u.0, u.2, u.3),
           λ a' h. let l = ended q left a lefts kl.1.exactly a' h in subst (λ x. ¬ Related q x (end_of u.1)) l.2 (All-contains (λ y. ¬ Related q (end_of y) (end_of u.1)) lefts l.0 u.4 l.1),
-        )
+        ))
 
     left_unmatched : IsLeftUnmatched q lefts rights → LeftFails q p
     left_unmatched u =

@@ -1,5 +1,6 @@
 -- The verdict that the judge answers, in the words of the definitions.
 use Rattle.std.specs.Prelude.{⊤}
+use Rattle.sort_term.specs.Relation.{left}
 use Rattle.sort_term.specs.Simulation.{Test, void, outside, long, halted}
 use Rattle.sort_term.specs.Verdict.{Kind, ungrounded, unmatched, refines, equivalent}
 use Rattle.ground_step.specs.Shows.{side_of}
@@ -18,7 +19,7 @@ test_of (Halted side) = halted (side_of side)
 -- the kind that is named, with its point
 abbrev pub kind_of : VerdictKind → Kind
 kind_of Equivalent = equivalent
-kind_of (Refines k) = refines k
+kind_of (Refines k) = refines k left
 kind_of (Unmatched k) = unmatched k
 kind_of (NotGrounded k t) = ungrounded k (test_of t)
 

@@ -1,5 +1,5 @@
 // What the runs from the two states of a point tell of it.
-ghost use Rattle.std.specs.Prelude.{◌≤◌, All, IfOk, MatchOption};
+ghost use Rattle.std.specs.Prelude.{◌≡◌, ◌≤◌, [], All, IfOk, MatchOption};
 ghost use Rattle.sort_term.specs.Problems.{IsPointOf};
 ghost use Rattle.sort_term.specs.Step.{IsState};
 ghost use Rattle.ground_step.specs.Reach.{EndsInState, runs_of};
@@ -33,6 +33,7 @@ pub fn examine(
 ) -> Result<Finding, NoMemory>
     requires fits { IsPointOf problem.now.left problem.now.right point.now }
     requires ground { IsGroundPoint point.now }
+    requires no_undefined { problem.now.points.undefs ≡ [] }
     requires steps { 1 ≤ steps }
     ensures { IfOk result (Finds problem.now steps point.now) }
 {
@@ -52,6 +53,7 @@ fn examine_pair(
 ) -> Result<Finding, NoMemory>
     requires left { IsState problem.now.left left.now.term }
     requires right { IsState problem.now.right right.now.term }
+    requires no_undefined { problem.now.points.undefs ≡ [] }
     requires steps { 1 ≤ steps }
     ensures { IfOk result (FindsOf problem.now steps left.now.term right.now.term) }
 {

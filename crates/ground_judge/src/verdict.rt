@@ -1,5 +1,5 @@
 // The verdict.
-ghost use Rattle.std.specs.Prelude.{◌≡◌, ◌≤◌, All, IfOk};
+ghost use Rattle.std.specs.Prelude.{◌≡◌, ◌≤◌, [], All, IfOk};
 ghost use Rattle.sort_term.specs.Simulation.{IsWellGrounded, IsMatchedSimulation, IsMatchedBisimulation};
 ghost use Rattle.sort_term.specs.Verdict.{IsVerdict};
 ghost use Rattle.ground_judge.specs.Ground.{IsGroundPoint};
@@ -11,9 +11,11 @@ use no_memory::NoMemory;
 use sort_term::Problem;
 use std::alloc::Global;
 
-/// The verdict for this number of steps, which is at least 1. No point has variables or conditions, which `are_ground` tells.
+/// The verdict for this number of steps, which is at least 1. No point has variables or conditions, which `are_ground` tells, and no
+/// left cut is one of undefined states.
 pub fn judge(alloc: Global, problem: &Problem, steps: u32) -> Result<VerdictKind, NoMemory>
     requires ground { All IsGroundPoint problem.now.points.points }
+    requires no_undefined { problem.now.points.undefs ≡ [] }
     requires steps { 1 ≤ steps }
     ensures verdict { IfOk result (λ kind. IsVerdict problem.now steps (kind_of kind)) }
 

@@ -2,13 +2,13 @@
 use Rattle.std.proofs.Common.{◌≡◌, ℕ, ap, sym, ◌∙◌, subst}
 use Rattle.sort_term.specs.declared.problem.Problem.{Problem}
 use Rattle.sort_term.specs.Runs.{reached, IsLong, IsHalted}
-use Rattle.sort_term.specs.Relation.{Side, of_side, IsStateOf, StepsOf, InCutOf, RightFails, LeftFails}
+use Rattle.sort_term.specs.Relation.{Side, left, right, of_side, IsStateOf, StepsOf, InCutOf, RightMisses, RightFails, LeftFails}
 use Rattle.sort_term.specs.Simulation.{void, outside, long, halted, HasTest}
-use Rattle.sort_term.specs.Verdict.{Kind, unmatched, refines, AtPoint}
+use Rattle.sort_term.specs.Verdict.{Kind, unmatched, refines, FirstMiss, AtPoint}
 use Rattle.ground_step.specs.declared.verdict.Failure.{Failure}
 use Rattle.ground_step.specs.declared.verdict.Verdict.TheVariants as verdict
 use Rattle.ground_step.specs.Shows.{Witness, reached_tree, side_of, start_of}
-use Rattle.ground_step.specs.VerdictLaws.{WitnessedTestsHold, WitnessedRightsFail, WitnessedLeftsFail, FirstTestsShow, FirstRightsShow, FirstLeftsShow, RightVerdictsAreVerdicts}
+use Rattle.ground_step.specs.VerdictLaws.{WitnessedTestsHold, WitnessedRightsFail, WitnessedRightsMiss, WitnessedLeftsFail, NoRightMiss, FirstTestsShow, FirstRightsShow, FirstMissesShow, RightVerdictsAreVerdicts}
 
 -- the point of the kind is that of the failure
 here : (q : Problem) (k : ℕ) (f : Failure) (P : _) → k ≡ f.point → AtPoint q P f.point → AtPoint q P k
@@ -35,11 +35,15 @@ ends q n k f w s e = subst (λ r. reached (of_side r f.left.term f.right.term) w
 
 pub rights_fail : WitnessedRightsFail
 rights_fail q n k f w =
-    here q k f (RightFails q) w.at.0 (w.point, w.there, (_, f.left.term, f.right.term, w.pair, (reached_tree f.reached, (w.run, w.shown.0, ends q n (unmatched k) f w _ w.at.1), w.shown.1)))
+    here q k f (RightFails q) w.at.0 (w.point, w.there, (_, f.left.term, f.right.term, w.pair, (reached_tree f.reached, (w.run, w.shown.0, ends q n (unmatched k) f w _ w.at.1), w.shown.1, w.shown.2)))
+
+pub rights_miss : WitnessedRightsMiss
+rights_miss q n k f w =
+    here q k f (RightMisses q) w.at.0 (w.point, w.there, (_, f.left.term, f.right.term, w.pair, (reached_tree f.reached, (w.run, w.shown.0, ends q n (refines k right) f w _ (sym w.at.1)), w.shown.1)))
 
 pub lefts_fail : WitnessedLeftsFail
 lefts_fail q n k f w =
-    here q k f (LeftFails q) w.at.0 (w.point, w.there, (_, f.left.term, f.right.term, w.pair, (reached_tree f.reached, (w.run, w.shown.0, ends q n (refines k) f w _ w.at.1), w.shown.1)))
+    here q k f (LeftFails q) w.at.0 (w.point, w.there, (_, f.left.term, f.right.term, w.pair, (reached_tree f.reached, (w.run, w.shown.0, ends q n (refines k left) f w _ (sym w.at.1)), w.shown.1)))
 
 pub first_tests : FirstTestsShow
 first_tests q n k t f before earlier w =
@@ -49,8 +53,13 @@ first_tests q n k t f before earlier w =
 pub first_rights : FirstRightsShow
 first_rights q n k f grounded before w = record { is = (grounded, rights_fail q n k f w, before); witness = w }
 
-pub first_lefts : FirstLeftsShow
-first_lefts q n k f grounded simulates before w = record { is = (grounded, simulates, lefts_fail q n k f w, before); witness = w }
+-- what a witness of "refines" shows at its point
+first_miss : (q : Problem) (n k : ℕ) (side : Side) (f : Failure) → NoRightMiss q k side → Witness q n (refines k side) f → AtPoint q (FirstMiss q side) k
+first_miss q n k right f no_right w = rights_miss q n k f w
+first_miss q n k left f no_right w = let at = lefts_fail q n k f w in (at.0, at.1, (at.2, no_right at.0 at.1))
+
+pub first_misses : FirstMissesShow
+first_misses q n k side f grounded simulates before no_right w = record { is = (grounded, simulates, first_miss q n k side f no_right w, before); witness = w }
 
 pub right_is_verdict : RightVerdictsAreVerdicts
 right_is_verdict q n verdict.Equivalent r = r

@@ -5,7 +5,7 @@ use Rattle.sort_term.specs.declared.problem.Problem.{Problem}
 use Rattle.sort_term.specs.declared.term.Term.TheVariants.{Plain}
 use Rattle.sort_term.specs.Tree.{Tree}
 use Rattle.sort_term.specs.Runs.{IsRun, reached, rules_of, IsMet, IsLong, IsHalted}
-use Rattle.sort_term.specs.Relation.{Side, left, right, IsPoint, Relates, Related, of_side, StepsOf, InCutOf, SucceedsOf}
+use Rattle.sort_term.specs.Relation.{Side, left, right, IsPoint, Relates, Related, of_side, StepsOf, InCutOf, SucceedsOf, IsUndefined}
 use Rattle.sort_term.specs.Simulation.{void, outside, long, halted}
 use Rattle.sort_term.specs.Verdict.{Kind, ungrounded, unmatched, refines, equivalent, IsVerdict}
 use Rattle.ground_step.specs.declared.verdict.SideName.{SideName}
@@ -36,7 +36,7 @@ IsAt (ungrounded k (outside s)) point side = (k ≡ point) × (s ≡ side)
 IsAt (ungrounded k (long s)) point side = (k ≡ point) × (s ≡ side)
 IsAt (ungrounded k (halted s)) point side = (k ≡ point) × (s ≡ side)
 IsAt (unmatched k) point side = (k ≡ point) × (side ≡ right)
-IsAt (refines k) point side = (k ≡ point) × (side ≡ left)
+IsAt (refines k s) point side = (k ≡ point) × (s ≡ side)
 IsAt equivalent point side = ⊥
 
 -- the state from which a failure's run begins
@@ -50,8 +50,10 @@ ShowsKind q n (ungrounded k (outside s)) f run = (run ≡ []) × ¬ InCutOf q (s
 ShowsKind q n (ungrounded k (long s)) f run = IsLong (StepsOf q (side_of f.side)) (InCutOf q (side_of f.side)) n (start_of f) run
 ShowsKind q n (ungrounded k (halted s)) f run = IsHalted (StepsOf q (side_of f.side)) (InCutOf q (side_of f.side)) (start_of f) run
 ShowsKind q n (unmatched k) f run =
+    IsMet (StepsOf q right) (InCutOf q right) f.right.term run × ((a' : Tree) → SucceedsOf q left f.left.term a' → ¬ Related q a' (reached_tree f.reached)) × ((a' : Tree) → SucceedsOf q left f.left.term a' → ¬ IsUndefined q a')
+ShowsKind q n (refines k right) f run =
     IsMet (StepsOf q right) (InCutOf q right) f.right.term run × ((a' : Tree) → SucceedsOf q left f.left.term a' → ¬ Related q a' (reached_tree f.reached))
-ShowsKind q n (refines k) f run =
+ShowsKind q n (refines k left) f run =
     IsMet (StepsOf q left) (InCutOf q left) f.left.term run × ((b' : Tree) → SucceedsOf q right f.right.term b' → ¬ Related q (reached_tree f.reached) b')
 ShowsKind q n equivalent f run = ⊥
 
@@ -79,7 +81,7 @@ pub record Shows (q : Problem) (n : ℕ) (kind : Kind) (f : Failure) : Type 0 wh
 -- the kind of a verdict, with its point and its side
 abbrev pub kind_of_verdict : Verdict → Kind
 kind_of_verdict verdict.Equivalent = equivalent
-kind_of_verdict (verdict.Refines f) = refines f.point
+kind_of_verdict (verdict.Refines f) = refines f.point (side_of f.side)
 kind_of_verdict (verdict.Unmatched f) = unmatched f.point
 kind_of_verdict (verdict.Void k) = ungrounded k void
 kind_of_verdict (verdict.Outside f) = ungrounded f.point (outside (side_of f.side))
@@ -89,7 +91,7 @@ kind_of_verdict (verdict.Halted f) = ungrounded f.point (halted (side_of f.side)
 -- a verdict is right: it is the problem's verdict for n steps, and carries a failure that shows it, but for void and equivalent
 abbrev pub IsRight : Problem → ℕ → Verdict → Type 0
 IsRight q n verdict.Equivalent = IsVerdict q n equivalent
-IsRight q n (verdict.Refines f) = Shows q n (refines f.point) f
+IsRight q n (verdict.Refines f) = Shows q n (refines f.point (side_of f.side)) f
 IsRight q n (verdict.Unmatched f) = Shows q n (unmatched f.point) f
 IsRight q n (verdict.Void k) = IsVerdict q n (ungrounded k void)
 IsRight q n (verdict.Outside f) = Shows q n (ungrounded f.point (outside (side_of f.side))) f

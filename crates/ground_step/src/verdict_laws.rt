@@ -1,10 +1,20 @@
 //! Laws of failures and verdicts, for readers of the contracts. Each function does nothing; its contract is the law.
-ghost use Rattle.ground_step.specs.VerdictLaws.{FirstLeftsShow, FirstRightsShow, FirstTestsShow, RightVerdictsAreVerdicts, WitnessedLeftsFail, WitnessedRightsFail, WitnessedTestsHold};
+ghost use Rattle.ground_step.specs.VerdictLaws.{
+  FirstMissesShow,
+  FirstRightsShow,
+  FirstTestsShow,
+  RightVerdictsAreVerdicts,
+  WitnessedLeftsFail,
+  WitnessedRightsFail,
+  WitnessedRightsMiss,
+  WitnessedTestsHold,
+};
 
 /// Where a failure witnesses a test, or that one side has a cut successor without a partner, this is so at the failure's point.
 pub fn witnesses_hold()
     ensures tests { WitnessedTestsHold }
     ensures rights { WitnessedRightsFail }
+    ensures right_misses { WitnessedRightsMiss }
     ensures lefts { WitnessedLeftsFail }
 {}
 
@@ -12,7 +22,7 @@ pub fn witnesses_hold()
 pub fn first_witnesses_show()
     ensures tests { FirstTestsShow }
     ensures rights { FirstRightsShow }
-    ensures lefts { FirstLeftsShow }
+    ensures misses { FirstMissesShow }
 {}
 
 /// The kind of a right verdict, with its point and its side, is the verdict of the problem.

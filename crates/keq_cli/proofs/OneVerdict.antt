@@ -35,13 +35,13 @@ same_verdict n k q p left right lp rp pts v =
 -- the status and the report of a kind, where these are the points
 abbrev IsShown : List Point → Kind → Status → List ℕ → Type 0
 IsShown ps kind.equivalent s x = (s ≡ Equivalent) × (x ≡ equivalent_line)
-IsShown ps (kind.refines k) s x = (p : Point) × (slice_get ps k ≡ Some p) × (s ≡ Refines) × (x ≡ refines_lines p.name)
+IsShown ps (kind.refines k side) s x = (p : Point) × (slice_get ps k ≡ Some p) × (s ≡ Refines) × (x ≡ refines_lines p.name)
 IsShown ps (kind.unmatched k) s x = (p : Point) × (slice_get ps k ≡ Some p) × (s ≡ Unmatched) × (x ≡ unmatched_lines p.name)
 IsShown ps (kind.ungrounded k test) s x = (p : Point) × (slice_get ps k ≡ Some p) × (s ≡ NotGrounded) × (x ≡ not_grounded_lines test p.name)
 
 kind_of_judged : (q : Problem) (n : ℕ) (s : Status) (x : List ℕ) → IsJudged q n s x → (k : Kind) × IsVerdict q n k × IsShown q.points.points k s x
 kind_of_judged q n _ _ (equivalent v) = (kind.equivalent, v, (refl, refl))
-kind_of_judged q n _ _ (refines k p v is) = (kind.refines k, v, (p, is, refl, refl))
+kind_of_judged q n _ _ (refines k side p v is) = (kind.refines k side, v, (p, is, refl, refl))
 kind_of_judged q n _ _ (unmatched k p v is) = (kind.unmatched k, v, (p, is, refl, refl))
 kind_of_judged q n _ _ (not_grounded k test p v is) = (kind.ungrounded k test, v, (p, is, refl, refl))
 
@@ -52,7 +52,7 @@ same_lines ps k status s r lines x y f g =
 
 same_shown : (ps : List Point) (k : Kind) (s r : Status) (x y : List ℕ) → IsShown ps k s x → IsShown ps k r y → (s ≡ r) × (x ≡ y)
 same_shown ps kind.equivalent s r x y f g = (f.0 ∙ sym g.0, f.1 ∙ sym g.1)
-same_shown ps (kind.refines k) s r x y f g = same_lines ps k Refines s r refines_lines x y f g
+same_shown ps (kind.refines k side) s r x y f g = same_lines ps k Refines s r refines_lines x y f g
 same_shown ps (kind.unmatched k) s r x y f g = same_lines ps k Unmatched s r unmatched_lines x y f g
 same_shown ps (kind.ungrounded k test) s r x y f g = same_lines ps k NotGrounded s r (not_grounded_lines test) x y f g
 

@@ -31,7 +31,7 @@ done_end = (tt, λ e. cc)
 judged_end : (q : Problem) (steps : ℕ) (status : Status) (report : List ℕ) → IsJudged q steps status report → IsEnd status
 unfolding IsEnd
 judged_end q steps _ _ (equivalent v) = (tt, λ e. cc)
-judged_end q steps _ _ (refines k p v is) = (tt, λ e. cc)
+judged_end q steps _ _ (refines k side p v is) = (tt, λ e. cc)
 judged_end q steps _ _ (unmatched k p v is) = (tt, λ e. cc)
 judged_end q steps _ _ (not_grounded k test p v is) = (tt, λ e. cc)
 

@@ -5,7 +5,7 @@ use Rattle.rule_text.specs.declared.error.LoadFault.{LoadFault}
 use Rattle.sort_term.specs.declared.points.Point.{Point}
 use Rattle.sort_term.specs.declared.points.Points.{Points}
 use Rattle.sort_term.specs.declared.problem.Problem.{Problem}
-use Rattle.sort_term.specs.Relation.{IsPoint}
+use Rattle.sort_term.specs.Relation.{Side, IsPoint}
 use Rattle.sort_term.specs.Simulation.{Test}
 use Rattle.sort_term.specs.Step.{Tables}
 use Rattle.sort_term.specs.System.{System}
@@ -83,7 +83,7 @@ with_ground points next = loads Unit (λ texts _. All IsGroundPoint points) (λ 
 -- how a problem is judged for a number of steps: the status and the report of its verdict
 pub data IsJudged (q : Problem) (steps : ℕ) : Status → List ℕ → Type 0 where
   equivalent : IsVerdict q steps kind.equivalent → IsJudged q steps Equivalent equivalent_line
-  refines : (k : ℕ) (p : Point) → IsVerdict q steps (kind.refines k) → IsPoint q k p → IsJudged q steps Refines (refines_lines p.name)
+  refines : (k : ℕ) (side : Side) (p : Point) → IsVerdict q steps (kind.refines k side) → IsPoint q k p → IsJudged q steps Refines (refines_lines p.name)
   unmatched : (k : ℕ) (p : Point) → IsVerdict q steps (kind.unmatched k) → IsPoint q k p → IsJudged q steps Unmatched (unmatched_lines p.name)
   not_grounded : (k : ℕ) (test : Test) (p : Point) → IsVerdict q steps (kind.ungrounded k test) → IsPoint q k p → IsJudged q steps NotGrounded (not_grounded_lines test p.name)
 

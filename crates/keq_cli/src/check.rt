@@ -1,5 +1,5 @@
 // The task of a check: five texts, and the verdict on their points.
-ghost use Rattle.std.specs.Prelude.{◌≡◌, ◌<◌, ◌≤◌, ◌++◌, All, IfErr, IfOk, IfSome, IsNone, OnOk, Some, length, slice_get};
+ghost use Rattle.std.specs.Prelude.{◌≡◌, [], ◌<◌, ◌≤◌, ◌++◌, All, IfErr, IfOk, IfSome, IsNone, OnOk, Some, length, slice_get};
 ghost use Rattle.sort_term.specs.declared.points.Point.{Point};
 ghost use Rattle.ground_judge.specs.Ground.{IsGroundPoint};
 ghost use Rattle.ground_judge.specs.Kinds.{test_of};
@@ -115,7 +115,8 @@ fn with_points(
 
 // The verdict on a problem, or the refusal of its first point that has variables or conditions.
 fn end_problem(alloc: Global, problem: &Problem, steps: u32) -> Result<Answer, Stopped>
-    requires { 1 ≤ steps }
+    requires no_undefined { problem.now.points.undefs ≡ [] }
+    requires steps { 1 ≤ steps }
     ensures ground { OnOk result (All IsGroundPoint problem.now.points.points) }
     ensures judged { IfOk result (λ answer. IsJudged problem.now steps answer.status answer.report) }
     ensures stops { IfErr result (StopsWith (RefusesOpen problem.now.points.points)) }
@@ -148,6 +149,7 @@ fn first_open(points: &[Point]) -> Option<usize>
 // The report of the verdict.
 fn judge(alloc: Global, problem: &Problem, steps: u32) -> Result<Answer, NoMemory>
     requires ground { All IsGroundPoint problem.now.points.points }
+    requires no_undefined { problem.now.points.undefs ≡ [] }
     requires steps { 1 ≤ steps }
     ensures { IfOk result (λ answer. IsJudged problem.now steps answer.status answer.report) }
 {

@@ -1,5 +1,5 @@
 //! The call of the ground judge: `(judge LEFT RIGHT LEFT-PROGRAM RIGHT-PROGRAM POINTS N)`, of texts that load and a number of
-//! steps. It answers the verdict and its point, or that some point has variables or conditions.
+//! steps. It answers the verdict and its point, or that some point has variables or conditions, or some cut is of undefined states.
 use crate::loaded::loaded_problem;
 use crate::running::step_count;
 use example_cases::{Failed, Texts};
@@ -40,6 +40,9 @@ pub(crate) fn answer(
 fn verdict(alloc: Global, problem: &Problem, steps: u32) -> Result<String, Failed> {
     if steps == 0 {
         return Err(Failed::NoCall);
+    }
+    if !problem.points.undefs.is_empty() {
+        return Ok(String::from_str(alloc, "with undefined items")?);
     }
     if !are_ground(problem.points.points.as_slice()) {
         return Ok(String::from_str(alloc, "with variables")?);

@@ -6,11 +6,13 @@ use Rattle.std.proofs.lemmas.Bool.{cases_lt}
 use Rattle.std.proofs.lemmas.Option.{slice_get_within, same_Some}
 use Rattle.sort_term.specs.declared.points.Point.{Point}
 use Rattle.sort_term.specs.declared.problem.Problem.{Problem}
-use Rattle.sort_term.specs.Relation.{IsPoint, RightFails, LeftFails}
-use Rattle.sort_term.specs.Simulation.{Test, IsGrounded, IsWellGroundedAt, IsWellGrounded, RightMatches, LeftMatches, IsMatchedSimulation}
+use Rattle.sort_term.specs.Relation.{IsPoint, RightMisses, RightFails, LeftFails}
+use Rattle.sort_term.specs.Simulation.{Test, IsGrounded, IsWellGroundedAt, IsWellGrounded, SideMisses, RightMatches, LeftMatches, EachPoint, IsMatchedSimulation}
 use Rattle.sort_term.specs.Verdict.{FirstTest, AtPoint, NoneBefore, IsVerdict}
 use Rattle.sort_term.specs.Verdict as kind
+use Rattle.sort_term.specs.Relation as on
 use Rattle.sort_term.proofs.GroundLemmas.{well_grounded, no_test}
+use Rattle.sort_term.proofs.VerdictLemmas.{fails_misses}
 
 -- of the first k points this is the first that has P; where it is none, all have Q
 abbrev pub IsFirstOf : Problem → (Point → Type 0) → (Point → Type 0) → ℕ → Option ℕ → Type 0
@@ -37,8 +39,11 @@ one_more q P Q never k None false p there m f = λ j r l is. go j r l is (cases_
     go j r l is (inl h) = f j r h is
     go j r l is (inr h) = let e : j ≡ k = omega arith in subst Q (sym (same_point q j k p r e is there)) m
 
+never_misses : (q : Problem) (p : Point) → RightMatches q p → ¬ RightMisses q p
+never_misses q p matches f = let m = matches f.0 f.1 f.2 f.3 f.4.0 f.4.1 in f.4.2 m.0 m.1 m.2
+
 never_right : (q : Problem) (p : Point) → RightMatches q p → ¬ RightFails q p
-never_right q p matches f = let m = matches f.0 f.1 f.2 f.3 f.4.0 f.4.1 in f.4.2 m.0 m.1 m.2
+never_right q p matches f = never_misses q p matches (fails_misses q p f)
 
 never_left : (q : Problem) (p : Point) → LeftMatches q p → ¬ LeftFails q p
 never_left q p matches f = let m = matches f.0 f.1 f.2 f.3 f.4.0 f.4.1 in f.4.2 m.0 m.1 m.2
@@ -74,8 +79,16 @@ module _ (q : Problem) (n : ℕ) where
       grounded : (unmatched refined : Option ℕ) → AreJudged q n k unmatched refined → IsGrounded q n
       grounded unmatched refined judged = well_grounded q n most (all_grounded unmatched refined judged)
 
-      pub all_rights : (refined : Option ℕ) → AreJudged q n k None refined → IsMatchedSimulation q
+      pub all_rights : (refined : Option ℕ) → AreJudged q n k None refined → EachPoint q (RightMatches q)
       all_rights refined judged j p is = judged.rights j p (within j p is) is
+
+      pub simulated : (refined : Option ℕ) → AreJudged q n k None refined → IsMatchedSimulation q
+      simulated refined judged j p is = λ v a b r b' h. inl (all_rights refined judged j p is v a b r b' h)
+
+      -- no side misses at a point, where none of the left does
+      no_miss : (refined : Option ℕ) → AreJudged q n k None refined → (j : ℕ) (p : Point) → IsPoint q j p → ¬ LeftFails q p → ¬ SideMisses q p
+      no_miss refined judged j p is never (inl m) = never_misses q p (all_rights refined judged j p is) m
+      no_miss refined judged j p is never (inr f) = never f
 
       pub all_lefts : (unmatched : Option ℕ) → AreJudged q n k unmatched None → (j : ℕ) (p : Point) → IsPoint q j p → LeftMatches q p
       all_lefts unmatched judged j p is = judged.lefts j p (within j p is) is
@@ -83,8 +96,14 @@ module _ (q : Problem) (n : ℕ) where
       pub is_unmatched : (i : ℕ) (refined : Option ℕ) → AreJudged q n k (Some i) refined → IsVerdict q n (kind.unmatched i)
       is_unmatched i refined judged = (grounded (Some i) refined judged, judged.rights.0, judged.rights.1)
 
-      pub is_refined : (i : ℕ) → AreJudged q n k None (Some i) → IsVerdict q n (kind.refines i)
-      is_refined i judged = (grounded None (Some i) judged, λ j p is. never_right q p (all_rights (Some i) judged j p is), judged.lefts.0, judged.lefts.1)
+      pub is_refined : (i : ℕ) → AreJudged q n k None (Some i) → IsVerdict q n (kind.refines i on.left)
+      is_refined i judged =
+          let first = judged.lefts.0 in (
+            grounded None (Some i) judged,
+            λ j p is. never_right q p (all_rights (Some i) judged j p is),
+            (first.0, first.1, (first.2, never_misses q first.0 (all_rights (Some i) judged i first.0 first.1))),
+            λ j p before is. no_miss (Some i) judged j p is (judged.lefts.1 j p before is),
+          )
 
       pub is_equivalent : AreJudged q n k None None → IsVerdict q n kind.equivalent
-      is_equivalent judged = (grounded None None judged, (λ j p is. never_right q p (all_rights None judged j p is), λ j p is. never_left q p (all_lefts None judged j p is)))
+      is_equivalent judged = (grounded None None judged, λ j p is. no_miss None judged j p is (never_left q p (all_lefts None judged j p is)))

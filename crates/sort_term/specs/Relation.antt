@@ -91,12 +91,17 @@ Long q n p side = RunsLong (StepsOf q side) (InCutOf q side) n (IsStateOf q p si
 abbrev pub Halted : Problem → Point → Side → Type 0
 Halted q p side = Halts (StepsOf q side) (InCutOf q side) (IsStateOf q p side)
 
--- right fails: some related pair (a, b) and some cut successor b' of b have no cut successor a' of a with (a', b') in the relation
-abbrev pub RightFails : Problem → Point → Type 0
-RightFails q p =
+-- right misses: some related pair (a, b) and some cut successor b' of b have no cut successor a' of a with (a', b') in the relation
+abbrev pub RightMisses : Problem → Point → Type 0
+RightMisses q p =
     SomePair q p (λ a b. (b' : Tree) × SucceedsOf q right b b' × ((a' : Tree) → SucceedsOf q left a a' → ¬ Related q a' b'))
 
--- left fails: the same with the sides exchanged
+-- right fails: moreover no cut successor of a is undefined, since the right may do anything where the left may come to an undefined state
+abbrev pub RightFails : Problem → Point → Type 0
+RightFails q p =
+    SomePair q p (λ a b. (b' : Tree) × SucceedsOf q right b b' × ((a' : Tree) → SucceedsOf q left a a' → ¬ Related q a' b') × ((a' : Tree) → SucceedsOf q left a a' → ¬ IsUndefined q a'))
+
+-- left fails: some related pair (a, b) and some cut successor a' of a have no cut successor b' of b with (a', b') in the relation
 abbrev pub LeftFails : Problem → Point → Type 0
 LeftFails q p =
     SomePair q p (λ a b. (a' : Tree) × SucceedsOf q left a a' × ((b' : Tree) → SucceedsOf q right b b' → ¬ Related q a' b'))

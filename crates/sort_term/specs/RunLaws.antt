@@ -1,9 +1,10 @@
 -- Laws of runs, steps and verdicts.
-use Rattle.std.specs.Prelude.{◌≡◌, ◌↔◌, ℕ, ◌≤◌, List, length}
+use Rattle.std.specs.Prelude.{◌≡◌, ◌↔◌, ℕ, ◌≤◌, List, [], length}
 use Rattle.sort_term.specs.declared.semantics.Con.{Con}
 use Rattle.sort_term.specs.declared.semantics.Table.{Table}
 use Rattle.sort_term.specs.declared.ids.SortId.{SortId}
 use Rattle.sort_term.specs.declared.points.Cut.{Cut}
+use Rattle.sort_term.specs.declared.points.Point.{Point}
 use Rattle.sort_term.specs.declared.problem.Problem.{Problem}
 use Rattle.sort_term.specs.declared.rule.Rule.{Rule}
 use Rattle.sort_term.specs.System.{System}
@@ -13,7 +14,8 @@ use Rattle.sort_term.specs.Problems.{IsCut}
 use Rattle.sort_term.specs.Step.{Tables, Takes, StepsBy}
 use Rattle.sort_term.specs.Runs.{IsRun, rules_of, MetTo}
 use Rattle.sort_term.specs.Cuts.{InCut, Covers, IsMetIn, IsLongIn, IsHaltedIn, SucceedsIn}
-use Rattle.sort_term.specs.Verdict.{Kind, IsVerdict}
+use Rattle.sort_term.specs.Relation.{right, RightMisses, RightFails}
+use Rattle.sort_term.specs.Verdict.{Kind, refines, IsVerdict}
 
 -- where no run of n steps from s keeps its later states outside the cut, every met run from s has at most n steps
 abbrev pub MetRunsAreShort : Type 0 → Type 0
@@ -33,6 +35,11 @@ SuccessorsAreNear S =
 -- a problem has at most one verdict for a number of steps
 abbrev pub OneVerdict : Type 0
 OneVerdict = (q : Problem) (n : ℕ) (k l : Kind) → IsVerdict q n k → IsVerdict q n l → k ≡ l
+
+-- without undefined items the right fails where it misses, and no problem refines on the right side
+abbrev pub UndefinedItemsAloneExcuse : Type 0
+UndefinedItemsAloneExcuse =
+    (q : Problem) → q.points.undefs ≡ [] → ((p : Point) → RightMisses q p ↔ RightFails q p) × ((n k : ℕ) → ¬ IsVerdict q n (refines k right))
 
 -- a rule that passed its checks takes a state to at most one state, and under at most one valuation
 abbrev pub OneInstance : Type 0

@@ -1,10 +1,10 @@
 -- Grounded relations, cut-simulations and cut-bisimulations.
-use Rattle.std.specs.Prelude.{ℕ}
+use Rattle.std.specs.Prelude.{ℕ, ◌⊎◌}
 use Rattle.sort_term.specs.declared.points.Point.{Point}
 use Rattle.sort_term.specs.declared.problem.Problem.{Problem}
 use Rattle.sort_term.specs.Tree.{Tree, Trees}
 use Rattle.sort_term.specs.StateSets.{KeepsMeeting}
-use Rattle.sort_term.specs.Relation.{Side, left, right, IsPoint, Holds, Related, EachPair, IsStateOf, StepsOf, InCutOf, SucceedsOf, Void, Outside, Long, Halted, RightFails, LeftFails}
+use Rattle.sort_term.specs.Relation.{Side, left, right, IsPoint, Holds, Related, EachPair, IsStateOf, StepsOf, InCutOf, SucceedsOf, Void, Outside, Long, Halted, IsUndefined, RightMisses, RightFails, LeftFails}
 
 -- no point has P, and each point has P
 abbrev pub NoPoint : Problem → (Point → Type 0) → Type 0
@@ -43,13 +43,17 @@ pub record IsWellGroundedAt (q : Problem) (n : ℕ) (p : Point) : Type 0 where
 abbrev pub IsWellGrounded : Problem → ℕ → Type 0
 IsWellGrounded q n = EachPoint q (IsWellGroundedAt q n)
 
--- the relation is a cut-simulation of the right by the left: no point has "right fails"
+-- the relation is a cut-simulation of the right by the left, up to undefined left states: no point has "right fails"
 abbrev pub IsCutSimulation : Problem → Type 0
 IsCutSimulation q = NoPoint q (RightFails q)
 
--- it is a cut-bisimulation: moreover no point has "left fails"
+-- some state that one side of the point comes to has no partner, undefined states or not
+abbrev pub SideMisses : Problem → Point → Type 0
+SideMisses q p = RightMisses q p ⊎ LeftFails q p
+
+-- it is a cut-bisimulation: no point has "right misses" or "left fails"
 abbrev pub IsCutBisimulation : Problem → Type 0
-IsCutBisimulation q = IsCutSimulation q × NoPoint q (LeftFails q)
+IsCutBisimulation q = NoPoint q (SideMisses q)
 
 -- each cut successor b' of the right state of a related pair has a partner: a cut successor a' of the left state with (a', b') in the relation
 abbrev pub RightMatches : Problem → Point → Type 0
@@ -61,9 +65,14 @@ abbrev pub LeftMatches : Problem → Point → Type 0
 LeftMatches q p =
     EachPair q p (λ a b. (a' : Tree) → SucceedsOf q left a a' → (b' : Tree) × SucceedsOf q right b b' × Related q a' b')
 
+-- each cut successor b' of the right state of a related pair has a partner, or the left state has an undefined cut successor
+abbrev pub RightIsExcused : Problem → Point → Type 0
+RightIsExcused q p =
+    EachPair q p (λ a b. (b' : Tree) → SucceedsOf q right b b' → ((a' : Tree) × SucceedsOf q left a a' × Related q a' b') ⊎ ((a' : Tree) × SucceedsOf q left a a' × IsUndefined q a'))
+
 -- a cut-simulation and a cut-bisimulation that name the partners: stronger, since that a partner can't be missing doesn't name one
 abbrev pub IsMatchedSimulation : Problem → Type 0
-IsMatchedSimulation q = EachPoint q (RightMatches q)
+IsMatchedSimulation q = EachPoint q (RightIsExcused q)
 
 abbrev pub IsMatchedBisimulation : Problem → Type 0
-IsMatchedBisimulation q = IsMatchedSimulation q × EachPoint q (LeftMatches q)
+IsMatchedBisimulation q = EachPoint q (RightMatches q) × EachPoint q (LeftMatches q)

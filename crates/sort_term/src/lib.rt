@@ -87,6 +87,7 @@ pub use rule_checks::is_sorted;
 pub use run_laws::cut_valuations_are_unique;
 pub use run_laws::met_runs_are_short;
 pub use run_laws::rule_steps_are_unique;
+pub use run_laws::undefined_items_alone_excuse;
 pub use run_laws::verdict_is_unique;
 pub use semantics::Con;
 pub use semantics::Cons;

@@ -1,5 +1,5 @@
 //! Laws of runs, steps and verdicts, for readers of the contracts. Each function does nothing; its contract is the law.
-ghost use Rattle.sort_term.specs.RunLaws.{MetRunsAreShort, HaltedRunsAreShort, SuccessorsAreNear, OneVerdict, OneInstance, OneStep, RulesFixRuns, OneCover};
+ghost use Rattle.sort_term.specs.RunLaws.{MetRunsAreShort, HaltedRunsAreShort, SuccessorsAreNear, OneVerdict, UndefinedItemsAloneExcuse, OneInstance, OneStep, RulesFixRuns, OneCover};
 
 use crate::term::Side;
 
@@ -15,6 +15,12 @@ pub fn met_runs_are_short<S: Side>()
 /// A problem has at most one verdict for a number of steps.
 pub fn verdict_is_unique()
     ensures { OneVerdict }
+{}
+
+/// Without undefined items a point at which the right has a cut successor without a partner is one at which it fails, so that a
+/// relation is a cut-simulation up to undefined left states exactly where it is one.
+pub fn undefined_items_alone_excuse()
+    ensures { UndefinedItemsAloneExcuse }
 {}
 
 /// A rule that passed its checks takes a state to at most one state, under at most one valuation of its variables. So each

@@ -1,7 +1,6 @@
 -- The cuts and points that items make are lawful.
 use Rattle.std.proofs.Common.{arith, ◌≡◌, ℕ, ◌<◌, ◌≤◌, true, false, List, [], ◌∷◌, ◌++◌, All, map, length, None, Some, refl, sym, ap, ap₂, ◌∙◌, subst}
-use Rattle.std.proofs.lemmas.List.{length_push}
-use Rattle.std.proofs.lemmas.List.Elements.{All-nil, All-weaker}
+use Rattle.std.proofs.lemmas.List.Elements.{All-nil}
 use Rattle.rule_text.specs.declared.item.Item.{Item}
 use Rattle.rule_text.specs.declared.item.Item.TheVariants as item
 use Rattle.rule_text.specs.declared.item.RawVar.{RawVar}
@@ -41,7 +40,7 @@ use Rattle.sync_points.proofs.Passing.{same_piece}
 record AreLawfulSoFar (left right : System) (p : Points) : Type 0 where
   left_cuts : AreCuts left p.left_cuts
   right_cuts : AreCuts right p.right_cuts
-  undefs : AreUndefs p.left_cuts p.undefs
+  undefs : p.undefs ≡ []
   few : length p.points ≤ 64
   distinct : AreDistinct (λ q. q.name) p.points
   each : All (IsPointOf left right) p.points
@@ -81,10 +80,6 @@ module _ (left right : System) (name : List ℕ) (raws : List RawVar) (left_term
         determined = determined;
       }
 
--- the places of undefined items stay those of items where one stands behind them
-undefs_before : {S : Type 0} (items : List (Cut S)) (c : Cut S) (places : List ℕ) → AreUndefs items places → AreUndefs (items ++ c ∷ []) places
-undefs_before items c places h = record { there = All-weaker (λ k. k < length items) (λ k. k < length (items ++ c ∷ [])) (λ k l. let e = length_push items c in omega (arith, e, l)) places h.there; rising = h.rising }
-
 -- there are no undefined items
 no_undefs : {S : Type 0} {items : List (Cut S)} → AreUndefs items []
 no_undefs {items = items} = record { there = All-nil (λ k. k < length items); rising = λ i j d l m. absurd (omega arith) }
@@ -100,7 +95,7 @@ module _ (d : PointsOf) (so_far : AreLawfulSoFar d.left d.right d.points) where
       record {
         left_cuts = one_cut_more d.left name vars pattern whens c d.points.left_cuts so_far.left_cuts named.0 within.0 m.1 lawful;
         right_cuts = so_far.right_cuts;
-        undefs = undefs_before d.points.left_cuts c d.points.undefs so_far.undefs;
+        undefs = so_far.undefs;
         few = so_far.few;
         distinct = so_far.distinct;
         each = so_far.each;
@@ -145,18 +140,24 @@ keeps d i e so_far takes =
     subst (λ f. AreLawfulSoFar f.left f.right f.points) (sym takes.adds.is) lawful
 
 begins : (left right : System) → AreLawfulSoFar left right nothing
-begins left right = record { left_cuts = no_cuts left; right_cuts = no_cuts right; undefs = no_undefs; few = omega arith; distinct = λ i j d l m. absurd (omega arith); each = All-nil (IsPointOf left right) }
+begins left right = record { left_cuts = no_cuts left; right_cuts = no_cuts right; undefs = refl; few = omega arith; distinct = λ i j d l m. absurd (omega arith); each = All-nil (IsPointOf left right) }
 
 -- where nothing lacks there is a point
 some_point : (points : List Point) → lacking_point points ≡ None → 1 ≤ length points
 some_point [] none = absurd cc
 some_point (p ∷ rest) none = omega arith
 
+-- no text has undefined items
+pub texts_have_no_undefs : (left right : System) (bytes : List ℕ) (p : Points) → IsPointsText left right bytes p → p.undefs ≡ []
+texts_have_no_undefs left right bytes p text =
+    let all = text_keeps points_loading (no_points left right) (λ d. AreLawfulSoFar d.left d.right d.points) (begins left right) keeps bytes (record { left = left; right = right; points = p }) text.whole.text in
+    all.undefs
+
 -- the cuts and points of a text are lawful
 pub texts_are_lawful : (left right : System) (bytes : List ℕ) (p : Points) → IsPointsText left right bytes p → AreLawful left right p
 texts_are_lawful left right bytes p text =
     let all = text_keeps points_loading (no_points left right) (λ d. AreLawfulSoFar d.left d.right d.points) (begins left right) keeps bytes (record { left = left; right = right; points = p }) text.whole.text in
-    record { left_cuts = all.left_cuts; right_cuts = all.right_cuts; undefs = all.undefs; points = record { some = some_point p.points text.whole.whole; few = all.few; distinct = all.distinct; each = all.each } }
+    record { left_cuts = all.left_cuts; right_cuts = all.right_cuts; undefs = subst (AreUndefs p.left_cuts) (sym all.undefs) no_undefs; points = record { some = some_point p.points text.whole.whole; few = all.few; distinct = all.distinct; each = all.each } }
 
 -- what an item adds is determined
 pub adds_one : (d : PointsOf) (i : Item) (e f : PointsOf) → Adds d i e → Adds d i f → e ≡ f

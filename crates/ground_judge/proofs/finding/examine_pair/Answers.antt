@@ -35,6 +35,6 @@ pub returns-in-Ok : goal.returns-in-Ok
 returns-in-Ok c =
     IfOk-weaker c.examine_runs-found.result _ _
     (λ found tells p only.
-    told c.args.problem.now c.args.steps p c.args.left.now.term c.args.right.now.term only c.in_ok-lefts.lefts c.in-Ok.rights (c.in_ok-in_cut.ensures.0 c.if-not-branch.false) (c.in_ok-in_cut-2.ensures.0 c.if-not-branch-2.false)
+    told c.args.problem.now c.args.steps p c.args.left.now.term c.args.right.now.term only c.requires.no_undefined c.in_ok-lefts.lefts c.in-Ok.rights (c.in_ok-in_cut.ensures.0 c.if-not-branch.false) (c.in_ok-in_cut-2.ensures.0 c.if-not-branch-2.false)
     c.in_ok-lefts.ensures.long c.in-Ok.ensures.long c.in_ok-lefts.ensures.halted c.in-Ok.ensures.halted found c.in_ok-lefts.ensures.met c.in-Ok.ensures.met tells)
     c.examine_runs-found.ensures

@@ -4,7 +4,7 @@ use Rattle.sort_term.specs.Relation.{IsPoint}
 use Rattle.ground_judge.specs.declared.finding.Finding.TheVariants.{Ungrounded, Grounded}
 use Rattle.ground_judge.specs.Found.{Finds}
 use Rattle.ground_judge.specs.Kinds.{test_of}
-use Rattle.sort_term.proofs.Judging.{AreJudged, judged_more, first_ungrounded, all_grounded, all_rights, all_lefts, is_unmatched, is_refined, is_equivalent}
+use Rattle.sort_term.proofs.Judging.{AreJudged, judged_more, first_ungrounded, all_grounded, all_rights, simulated, all_lefts, is_unmatched, is_refined, is_equivalent}
 use Rattle.ground_judge.proofs.verdict.judge.Goals as goal
 
 pub returns-in-Ungrounded-clause-verdict : goal.returns-in-Ungrounded-clause-verdict
@@ -63,7 +63,7 @@ returns-in-None-Some-clause-simulated c =
     let k = c.loop-place.place in
     let all : length q.points.points ≤ k = rw c.as_slice-points.ensures at c.loop-place-test.false in
     let judged : AreJudged q c.args.steps k None c.loop-place.refined = subst (λ (o : Option ℕ). AreJudged q c.args.steps k o c.loop-place.refined) c.in-None-Some.is-0 c.loop-place.invariant in
-    λ _. all_rights q c.args.steps c.requires.steps k all c.loop-place.refined judged
+    λ _. simulated q c.args.steps c.requires.steps k all c.loop-place.refined judged
 
 pub returns-in-None-None-clause-verdict : goal.returns-in-None-None-clause-verdict
 returns-in-None-None-clause-verdict c =
@@ -85,7 +85,7 @@ returns-in-None-None-clause-simulated c =
     let k = c.loop-place.place in
     let all : length q.points.points ≤ k = rw c.as_slice-points.ensures at c.loop-place-test.false in
     let judged : AreJudged q c.args.steps k None c.loop-place.refined = subst (λ (o : Option ℕ). AreJudged q c.args.steps k o c.loop-place.refined) c.in-None-None.is-0 c.loop-place.invariant in
-    λ _. all_rights q c.args.steps c.requires.steps k all c.loop-place.refined judged
+    λ _. simulated q c.args.steps c.requires.steps k all c.loop-place.refined judged
 
 pub returns-in-None-None-clause-matched : goal.returns-in-None-None-clause-matched
 returns-in-None-None-clause-matched c =

@@ -1,3 +1,4 @@
+use Rattle.sync_points.proofs.Drafts.{texts_have_no_undefs}
 use Rattle.keq_cli.specs.Plan.{Ends}
 use Rattle.keq_cli.specs.Stopping.{StopsWith}
 use Rattle.keq_cli.specs.Tasks.{check_plan}
@@ -5,6 +6,9 @@ use Rattle.keq_cli.specs.declared.status.Status.TheVariants.{Refused}
 use Rattle.keq_cli.proofs.Stops.{passed_on}
 use Rattle.keq_cli.proofs.TaskEnds.{problem_ends, problem_stops}
 use Rattle.keq_cli.proofs.check.end_check.Goals as goal
+
+pub end_problem-ended-requires-clause-no_undefined : goal.end_problem-ended-requires-clause-no_undefined
+end_problem-ended-requires-clause-no_undefined c = texts_have_no_undefs _ _ _ _ c.in_ok-problem.ensures.made.points_text
 
 pub returns-in_err-problem-clause-stops : goal.returns-in_err-problem-clause-stops
 returns-in_err-problem-clause-stops c =

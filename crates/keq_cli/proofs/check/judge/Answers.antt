@@ -1,4 +1,5 @@
 use Rattle.std.proofs.Common.{◌≡◌, ◌++◌, Some, slice_get, sym, ap, subst, ◌∙◌}
+use Rattle.sort_term.specs.Relation.{left}
 use Rattle.sort_term.specs.Verdict.{IsVerdict}
 use Rattle.sort_term.specs.Verdict as kind
 use Rattle.ground_judge.specs.Kinds.{kind_of, test_of}
@@ -19,10 +20,10 @@ returns-in_ok-report_at-in-Refines c =
     let q = c.args.problem.now in
     let n = c.args.steps in
     let k = c.in-Refines.point in
-    let v : IsVerdict q n (kind.refines k) = subst (λ x. IsVerdict q n (kind_of x)) c.in-Refines.is c.in_ok-judge.ensures.verdict in
+    let v : IsVerdict q n (kind.refines k left) = subst (λ x. IsVerdict q n (kind_of x)) c.in-Refines.is c.in_ok-judge.ensures.verdict in
     let p = v.2.0 in
     let there : slice_get c.as_slice-points.result.now k ≡ Some p = subst (λ xs. slice_get xs k ≡ Some p) (sym c.as_slice-points.ensures) v.2.1 in
-    subst (IsJudged q n Refines) (sym (c.in_ok-report_at-in-Refines.ensures p there)) (refines k p v v.2.1)
+    subst (IsJudged q n Refines) (sym (c.in_ok-report_at-in-Refines.ensures p there)) (refines k left p v v.2.1)
 
 pub returns-in_ok-report_at-in-Unmatched : goal.returns-in_ok-report_at-in-Unmatched
 returns-in_ok-report_at-in-Unmatched c =

@@ -1,0 +1,11 @@
+pub mod Clashes
+pub mod Arguments
+pub mod Determiners
+pub mod Nodes
+pub mod Samenesses
+pub mod Comparisons
+pub mod Points
+pub mod Adding
+pub mod Partnering
+pub mod Relating
+pub mod Undefined
