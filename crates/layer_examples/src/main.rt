@@ -36,6 +36,12 @@ impl Calls for Layers {
         if let Some(answer) = symbolic_examples::answer(alloc, texts, name, arguments)? {
             return Ok(answer);
         }
+        if let Some(answer) = search_examples::answer(alloc, texts, name, arguments)? {
+            return Ok(answer);
+        }
+        if let Some(answer) = pair_examples::answer(alloc, texts, name, arguments)? {
+            return Ok(answer);
+        }
         if let Some(answer) = machine_examples::answer(alloc, texts, name, arguments)? {
             return Ok(answer);
         }

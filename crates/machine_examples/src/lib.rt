@@ -9,7 +9,11 @@ mod terms;
 mod verdicts;
 
 use example_cases::{Failed, Texts};
-pub use loaded::{Machine, loaded_machine, loaded_program, loaded_semantics};
+pub use loaded::{
+    Machine, loaded_left_cuts, loaded_machine, loaded_program, loaded_semantics,
+    problem_without_rows,
+};
+pub use running::step_count;
 use sexp_text::Form;
 use std::alloc::Global;
 

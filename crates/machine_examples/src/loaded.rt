@@ -150,7 +150,7 @@ fn program_and_state(
 }
 
 /// The left cuts of points for two semantics, of which the second is that of a text.
-pub(crate) fn loaded_left_cuts(
+pub fn loaded_left_cuts(
     alloc: Global,
     texts: &Texts,
     left: &Semantics<Left>,
@@ -203,7 +203,7 @@ pub(crate) fn loaded_problem(
 }
 
 /// The problem that two semantics and points are, with programs without rows.
-pub(crate) fn problem_without_rows(
+pub fn problem_without_rows(
     alloc: Global,
     texts: &Texts,
     left: &Form,

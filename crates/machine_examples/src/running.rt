@@ -60,7 +60,7 @@ pub(crate) fn answer(
 }
 
 /// A number of steps.
-pub(crate) fn step_count(form: &Form) -> Result<u32, Failed> {
+pub fn step_count(form: &Form) -> Result<u32, Failed> {
     match u32::try_from(number(form)?) {
         Ok(count) => Ok(count),
         Err(_) => Err(Failed::NoCall),

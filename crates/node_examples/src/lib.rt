@@ -24,7 +24,7 @@ use example_cases::{Failed, list, small};
 pub use making::{declare, made};
 use sexp_text::Form;
 use std::alloc::Global;
-pub use valuations::{fits, valuation};
+pub use valuations::{fits, numbered, valuation, valuation_count};
 
 /// What the call with this name answers, whose arguments are forms alone; None where there is no such call.
 pub fn answer(alloc: Global, name: &[u8], arguments: &[Form]) -> Result<Option<String>, Failed> {

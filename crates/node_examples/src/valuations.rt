@@ -31,7 +31,7 @@ fn values(alloc: Global, forms: &[Form]) -> Result<Valuation, Failed> {
 }
 
 /// The valuation with this number of variables of these sorts, where all are counted.
-pub(crate) fn numbered(alloc: Global, sorts: &[DataSort], number: u64) -> Result<Valuation, Failed>
+pub fn numbered(alloc: Global, sorts: &[DataSort], number: u64) -> Result<Valuation, Failed>
     ensures { IfOk result (IsValuation sorts.now) }
 {
     let values = numbered_values(alloc, sorts, number)?;
@@ -71,7 +71,7 @@ fn numbered_value(alloc: Global, sort: DataSort, number: u64) -> Result<Value, F
 }
 
 /// How many valuations variables of these sorts have, where these are few.
-pub(crate) fn valuation_count(sorts: &[DataSort]) -> Result<u64, Failed> {
+pub fn valuation_count(sorts: &[DataSort]) -> Result<u64, Failed> {
     let mut count = 1u64;
     for sort in sorts {
         count = match count.checked_mul(value_count(*sort)?) {

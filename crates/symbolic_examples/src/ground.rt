@@ -1,5 +1,5 @@
 //! Calls of `step` where nodes are values.
-use crate::stepping::put_rules;
+use crate::leaf_text::put_rules;
 use crate::valued::is_true_value;
 use data_value::conditions::flag;
 use data_value::{Ground, Value};

@@ -9,14 +9,20 @@
 #![tactic(auto)]
 
 mod ground;
+mod leaf_text;
 mod paths;
 mod starts;
 mod stepping;
+mod sweeping;
 mod valued;
 
 use example_cases::{Failed, Texts};
+pub use leaf_text::{or_nothing, put_leaves};
 use sexp_text::Form;
+pub use starts::{StartingPoint, condition_at, configuration, start};
 use std::alloc::Global;
+pub use sweeping::{Sweep, byte};
+pub use valued::Valued;
 
 /// What the call with this name answers; None where there is no such call.
 pub fn answer(

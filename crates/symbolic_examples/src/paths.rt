@@ -1,6 +1,6 @@
 //! Calls of `begin` and `extend`.
+use crate::leaf_text::put_rules;
 use crate::starts::condition_at;
-use crate::stepping::put_rules;
 use crate::valued::Valued;
 use data_value::conditions::known_truth;
 use example_cases::{Failed, is_word, list, small};

@@ -10,21 +10,21 @@ use data_value::{DataSort, Symbolic, same_sort};
 use example_cases::{Failed, list, small};
 use node_examples::{declare, made};
 use sexp_text::Form;
-use sort_term::{ConId, Config, Left, Semantics, Sort, Term};
+use sort_term::{ConId, Config, Left, Semantics, Side, Sort, Term};
 use sqlite_items::Items;
 use std::alloc::Global;
 
-/// Where a step starts.
+/// Where a run starts.
 #[derive(Drop)]
-pub(crate) struct StartingPoint<N> {
+pub struct StartingPoint<N> {
     /// The configuration.
-    pub(crate) config: Config<Left, N>,
+    pub config: Config<Left, N>,
     /// The condition.
-    pub(crate) condition: N,
+    pub condition: N,
 }
 
 /// The configuration and the condition that forms are.
-pub(crate) fn start<D: Symbolic>(
+pub fn start<D: Symbolic>(
     alloc: Global,
     d: &mut D,
     semantics: &Semantics<Left>,
@@ -46,11 +46,11 @@ pub(crate) fn start<D: Symbolic>(
     })
 }
 
-// A constructor of the configuration sort at nodes of the sorts that it takes.
-fn configuration<D: Symbolic>(
+/// A constructor of the configuration sort at nodes of the sorts that it takes.
+pub fn configuration<S: Side, D: Symbolic>(
     alloc: Global,
     d: &D,
-    semantics: &Semantics<Left>,
+    semantics: &Semantics<S>,
     nodes: &[D::Node],
     forms: &[Form],
 ) -> Result<Term<D::Node>, Failed>
@@ -101,11 +101,7 @@ fn part<D: Symbolic>(
 }
 
 /// The condition at a place.
-pub(crate) fn condition_at<D: Symbolic>(
-    d: &D,
-    nodes: &[D::Node],
-    place: &Form,
-) -> Result<D::Node, Failed>
+pub fn condition_at<D: Symbolic>(d: &D, nodes: &[D::Node], place: &Form) -> Result<D::Node, Failed>
     requires { AllValid (D.look d.now) nodes.now }
     ensures { IfOk result (λ n. IsCondition (D.look d.now n)) }
 {

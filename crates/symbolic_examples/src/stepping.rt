@@ -4,19 +4,20 @@ ghost use Rattle.data_value.specs.Nodes.{IsValuation};
 ghost use Rattle.sort_term.specs.Problems.{IsProgram};
 ghost use Rattle.symbolic_examples.specs.Ends.{EndsAtNodes, LeadsToNodes};
 
+use crate::leaf_text::{or_nothing, put_leaves};
 use crate::starts::{StartingPoint, start};
+use crate::sweeping::{Sweep, byte};
 use crate::valued::{Valued, put_term};
-use data_value::{DataSort, Scalar, Valuation, Value};
+use data_value::Valuation;
 use example_cases::{Failed, Texts, is_word, list, small};
 use expr_pool::Pool;
 use expr_tree::Trees;
 use machine_examples::{loaded_program, loaded_semantics};
-use node_examples::{fits, valuation};
-use path_condition::{Leaf, begin};
+use node_examples::valuation;
+use path_condition::begin;
 use sexp_text::Form;
 use shown_terms::Shown;
 use sort_term::{Left, Program, RuleId, Semantics};
-use sqlite_items::Items;
 use std::alloc::{AllocError, Global};
 use symbolic_step::{Next, step};
 use unify::{Branch, branches};
@@ -104,36 +105,12 @@ fn sweep<D: Valued>(alloc: Global, d: &D, next: &Next<Left, D::Node>) -> Result<
     requires leaves { All (EndsAtNodes (D.look d.now)) next.now.leaves }
     requires stuck { IsTrue (D.look d.now next.now.stuck).valid }
 {
-    let mut out = Shown::new(alloc);
-    let mut last = String::new(alloc);
+    let mut sweep = Sweep::new(alloc);
     for bits in 0..256u64 {
-        let text = text_of_byte(alloc, d, next, bits)?;
-        if text.as_str() != last.as_str() {
-            out.part(" | ")?;
-            out.number("", bits)?;
-            out.put(": ")?;
-            out.put(text.as_str())?;
-            last = text;
-        }
+        let valuation = byte(alloc, d.sorts(), bits)?;
+        sweep.add(bits, text_at(alloc, d, next, &valuation, false)?)?;
     }
-    Ok(out.into_text())
-}
-
-fn text_of_byte<D: Valued>(
-    alloc: Global,
-    d: &D,
-    next: &Next<Left, D::Node>,
-    bits: u64,
-) -> Result<String, Failed>
-    requires leaves { All (EndsAtNodes (D.look d.now)) next.now.leaves }
-    requires stuck { IsTrue (D.look d.now next.now.stuck).valid }
-{
-    let mut valuation: Valuation = Items::new(alloc);
-    valuation.push(Value::One(Scalar::Bits { width: 8, bits }))?;
-    if !fits(d.sorts(), valuation.as_slice()) {
-        return Err(Failed::NoCall);
-    }
-    text_at(alloc, d, next, &valuation, false)
+    Ok(sweep.into_text())
 }
 
 // The leaves that hold, and whether the configuration is stuck.
@@ -149,55 +126,13 @@ fn text_at<D: Valued>(
     requires fits { IsValuation (D.variables d.now) valuation.now }
 {
     let mut out = Shown::new(alloc);
-    for leaf in next.leaves.as_slice() {
-        put_leaf(&mut out, alloc, d, leaf, valuation, with_states)?;
-    }
+    let leaves = next.leaves.as_slice();
+    put_leaves(&mut out, alloc, d, "", leaves, valuation, with_states)?;
     if d.is_true(alloc, &next.stuck, valuation)? {
         out.part("; ")?;
         out.put("stuck")?;
     }
     Ok(or_nothing(alloc, out.into_text())?)
-}
-
-fn or_nothing(alloc: Global, text: String) -> Result<String, AllocError> {
-    if text.is_empty() {
-        String::from_str(alloc, "nothing")
-    } else {
-        Ok(text)
-    }
-}
-
-// The rules of a leaf that holds, and its state.
-fn put_leaf<D: Valued>(
-    out: &mut Shown,
-    alloc: Global,
-    d: &D,
-    leaf: &Leaf<Left, D::Node>,
-    valuation: &Valuation,
-    with_states: bool,
-) -> Result<(), Failed>
-    requires leaf { EndsAtNodes (D.look d.now) leaf.now }
-    requires fits { IsValuation (D.variables d.now) valuation.now }
-{
-    if !d.is_true(alloc, &leaf.condition, valuation)? {
-        return Ok(());
-    }
-    out.part("; ")?;
-    put_rules(out, leaf.rules.as_slice())?;
-    if with_states {
-        out.put(" ")?;
-        put_term(out, alloc, d, valuation, leaf.config.term())?;
-    }
-    Ok(())
-}
-
-/// Writes the numbers of rules.
-pub(crate) fn put_rules(out: &mut Shown, rules: &[RuleId]) -> Result<(), AllocError> {
-    out.put("by")?;
-    for rule in rules {
-        out.place(" ", rule.0)?;
-    }
-    Ok(())
 }
 
 /// What the branches of a rule lead to under some values.

@@ -13,7 +13,7 @@ use sort_term::Term;
 use std::alloc::Global;
 
 /// A domain whose nodes' meanings can be computed.
-pub(crate) trait Valued: Symbolic {
+pub trait Valued: Symbolic {
     /// Writes what a node means.
     fn put_meaning(
         &self,
