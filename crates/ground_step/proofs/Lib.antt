@@ -14,3 +14,4 @@ pub mod Determined
 pub mod Pairs
 pub mod FirstRuns
 pub mod Witnessed
+pub mod Leading

@@ -21,7 +21,7 @@ use Rattle.sort_term.specs.declared.rule.Var.{Var}
 use Rattle.sort_term.specs.declared.rule.RuleExpr.{RuleExpr}
 use Rattle.sort_term.specs.declared.rule.RuleExpr.TheVariants as expr
 use Rattle.sort_term.specs.Tree.{Tree, Trees, plain_of, tree_at, value}
-use Rattle.sort_term.specs.Sorted.{applied_sort, var_sort, tree_sort, expr_sort}
+use Rattle.sort_term.specs.Sorted.{applied_sort, var_sort, tree_sort, expr_sort, IsValuationOf}
 use Rattle.sort_term.specs.Signature.{is_plain}
 use Rattle.sort_term.specs.Stands.{is_argument, argument_of}
 use Rattle.sort_term.specs.Step.{IsState}
@@ -34,6 +34,7 @@ use Rattle.sort_term.proofs.Each.{Each}
 use Rattle.sort_term.proofs.Equations.{expr_sort-Var, expr_sort-Lit, expr_sort-Op, expr_sort-Con, tree_sort-Plain, tree_sort-Con, plain_of-Plain}
 use Rattle.sort_term.proofs.GroundTerms.{ground_sort}
 use Rattle.sort_term.proofs.Induction.{expr_ind, term_ind}
+use Rattle.sort_term.proofs.Sorting.{expr_keeps}
 use Rattle.ground_step.specs.GroundBinds.{ground_binds, AgreesGround, Restricts}
 use Rattle.ground_step.specs.Ready.{IsKnown, IsEvaluable}
 use Rattle.ground_step.specs.Fit.{ReadsWithin, Determines, IsValueBound, some_plain, plain_trees, IsOnlyFit, RelationIs}
@@ -80,7 +81,7 @@ self_there [] i x h = absurd (cc)
 self_there (y ∷ values) zero x h = cc
 self_there (y ∷ values) (suc i) x h = self_there values i x h
 
-agrees_self : (values : List Value) → AgreesGround (map some_plain values) (plain_trees values)
+pub agrees_self : (values : List Value) → AgreesGround (map some_plain values) (plain_trees values)
 agrees_self values = agrees_from (map some_plain values) (plain_trees values) (self_there values)
 
 agrees_only : (values : List Value) (v : Trees) → length v ≡ length values → AgreesGround (map some_plain values) v → v ≡ plain_trees values
@@ -136,6 +137,59 @@ module _ (cons : List Con) (vars : List Var) where
       op_stays
       (λ k es e. con_stays k es)
 
+-- where each of some variables is bound to a tree of its sort, an expression over them is ready
+module _ (vars : List Var) (bound : List (Option Tree)) (as_many : length bound ≡ length vars) (known : (cons : List Con) (i : ℕ) → i < length vars → IsKnown cons vars bound i) where
+  all_known : (cons : List Con) → AreBinds cons vars (ground_binds bound)
+  all_known cons = record {
+    long = length-map bound _ ∙ as_many;
+    sorted = λ i t h.
+        let u = tree_there bound i t h in
+        let k = known cons i (let m = slice_get_within bound i (Some u.0) u.1 in subst (λ n. i < n) as_many m) in
+        let found : Some (Some u.0) ≡ Some (Some k.tree) = sym u.1 ∙ k.there in
+        let is : u.0 ≡ k.tree = cc in
+        ap (seen_sort cons) u.2 ∙ ground_sort cons u.0 ∙ ap (tree_sort cons) is ∙ k.sorted;
+  }
+
+  pub ready_where : (cons : List Con) (e : RuleExpr) → IsSome (expr_sort cons vars e) → IsEvaluable cons bound e
+  ready_where cons e h = record {
+    vars = vars;
+    binds = all_known cons;
+    sorted = h;
+    known = λ i x. let k = known cons i (declares cons vars e h i x) in subst IsSome (sym (bound_seen ground_seen bound i k.tree k.there)) refl;
+  }
+
+-- each variable that is bound to a value of its sort is bound to a tree of it
+known_values : (cons : List Con) (vars : List Var) (values : List Value) → IsValuationOf [] vars (plain_trees values) → (i : ℕ) → i < length vars → IsKnown cons vars (map some_plain values) i
+known_values cons [] values fit i l = absurd (omega arith)
+known_values cons (x ∷ vars) [] fit i l = absurd (cc)
+known_values cons (x ∷ vars) (y ∷ values) fit zero l =
+    let here : tree_sort [] (term.Plain y) ≡ Some x.sort = cc in
+    record { tree = term.Plain y; there = refl; sorted = tree_sort-Plain cons y ∙ sym (tree_sort-Plain [] y) ∙ here }
+known_values cons (x ∷ vars) (y ∷ values) fit (suc i) l =
+    let rest : map (tree_sort []) (plain_trees values) ≡ map (λ z. Some z.sort) vars = cc in
+    let k = known_values cons vars values rest i (omega arith) in
+    record { tree = k.tree; there = k.there; sorted = k.sorted }
+
+-- an expression that has a sort over variables is ready where they are bound to values of their sorts
+pub ready_under : (cons : List Con) (vars : List Var) (values : List Value) (e : RuleExpr) (s : Sort) → IsValuationOf [] vars (plain_trees values) → expr_sort cons vars e ≡ Some s → IsEvaluable cons (map some_plain values) e
+ready_under cons vars values e s fit is =
+    let as_many : length (map some_plain values) ≡ length vars = length-map values some_plain ∙ sym (length-map values term.Plain) ∙ fits_long [] vars (plain_trees values) fit in
+    ready_where vars (map some_plain values) as_many (λ other i l. known_values other vars values fit i l) cons e (subst IsSome (sym is) (search rules))
+
+-- values of the sorts of data are so whatever the constructors, so an expression's value is of its sort
+fits_any : (cons : List Con) (vars : List Var) (values : List Value) → IsValuationOf [] vars (plain_trees values) → IsValuationOf cons vars (plain_trees values)
+fits_any cons vars values fit = same values ∙ fit
+  where
+    same : (xs : List Value) → map (tree_sort cons) (plain_trees xs) ≡ map (tree_sort []) (plain_trees xs)
+    same [] = refl
+    same (x ∷ xs) =
+        let here : tree_sort cons (term.Plain x) ≡ tree_sort [] (term.Plain x) = tree_sort-Plain cons x ∙ sym (tree_sort-Plain [] x) in
+        let rest = same xs in
+        cc
+
+pub value_sorted_under : (cons : List Con) (vars : List Var) (values : List Value) (e : RuleExpr) (s : Sort) → IsValuationOf [] vars (plain_trees values) → expr_sort cons vars e ≡ Some s → tree_sort cons (value (plain_trees values) e) ≡ Some s
+value_sorted_under cons vars values e s fit is = expr_keeps cons vars (plain_trees values) (fits_any cons vars values fit) e s is
+
 module _ (q : Problem) (p : Point) (a b : Tree) (checked : IsPointOf q.left q.right p) (sa : IsState q.left a) (sb : IsState q.right b) where
   left_sorted : IsSome (expr_sort q.left.cons p.vars p.left)
   left_sorted = subst IsSome (sym checked.left_term.is) (search rules)
@@ -182,25 +236,8 @@ module _ (q : Problem) (p : Point) (a b : Tree) (checked : IsPointOf q.left q.ri
               to_any q.left.cons cons i m (stays_known q.left.cons p.vars mid new i dr.keeps (λ v x. dr.sound v x refl) (dl.known refl q.left.cons p.vars (Own q.left.config) checked.left_term.is sa.is i (or_right (argument_of i p.left).0 (argument_of i p.left).1 h)))
           go (inr h) = to_any q.right.cons cons i m (dr.known refl q.right.cons p.vars (Own q.right.config) checked.right_term.is sb.is i (or_right (argument_of i p.right).0 (argument_of i p.right).1 h))
 
-      -- each variable has a tree of its sort
-      all_known : (cons : List Con) → AreBinds cons p.vars (ground_binds new)
-      all_known cons = record {
-        long = length-map new _ ∙ as_many;
-        sorted = λ i t h.
-            let u = tree_there new i t h in
-            let k = known cons i (let m = slice_get_within new i (Some u.0) u.1 in subst (λ n. i < n) as_many m) in
-            let found : Some (Some u.0) ≡ Some (Some k.tree) = sym u.1 ∙ k.there in
-            let is : u.0 ≡ k.tree = cc in
-            ap (seen_sort cons) u.2 ∙ ground_sort cons u.0 ∙ ap (tree_sort cons) is ∙ k.sorted;
-      }
-
       ready : (cons : List Con) (e : RuleExpr) → IsSome (expr_sort cons p.vars e) → IsEvaluable cons new e
-      ready cons e h = record {
-        vars = p.vars;
-        binds = all_known cons;
-        sorted = h;
-        known = λ i x. let k = known cons i (declares cons p.vars e h i x) in subst IsSome (sym (bound_seen ground_seen new i k.tree k.there)) refl;
-      }
+      ready = ready_where p.vars new as_many known
 
       pub left_ready : IsEvaluable q.left.cons new p.left
       left_ready = ready q.left.cons p.left left_sorted

@@ -1,12 +1,12 @@
 -- Runs as values of the code, and lists of all runs of a kind.
-use Rattle.std.specs.Prelude.{◌≡◌, ◌≢◌, ℕ, List, [], ◌∷◌, ◌++◌, map, All, AllPairs, Option, MatchOption}
+use Rattle.std.specs.Prelude.{◌≡◌, ◌≢◌, ℕ, List, [], ◌∷◌, ◌++◌, map, All, AllPairs, Option, Some, MatchOption}
 use Rattle.std.specs.List.{Contains}
 use Rattle.sort_term.specs.declared.semantics.Con.{Con}
 use Rattle.sort_term.specs.declared.points.Cut.{Cut}
 use Rattle.sort_term.specs.System.{System}
 use Rattle.sort_term.specs.Tree.{Tree}
 use Rattle.sort_term.specs.Step.{Tables, StepsBy, IsState}
-use Rattle.sort_term.specs.Runs.{reached, IsStuck, StepsFirst, IsFirstRun, IsLong, IsMetWithin, IsHaltedWithin}
+use Rattle.sort_term.specs.Runs.{reached, IsRun, Ends, IsStuck, StepsFirst, IsFirstRun, IsLong, IsMetWithin, IsHaltedWithin}
 use Rattle.sort_term.specs.Cuts.{InCut}
 use Rattle.ground_step.specs.declared.run.Run.{Run}
 use Rattle.ground_step.specs.declared.run.RunStep.{RunStep}
@@ -131,3 +131,8 @@ IsFirstStep sys tables s next = MatchOption next (IsStuckIn sys tables s) (λ x.
 -- the run ends in a state
 abbrev pub EndsInState : System → StartedRun → Type 0
 EndsInState sys p = IsState sys (end_of p)
+
+-- o is the last state of the run from s by these rules, or nothing where there is no such run
+pub record LeadsTo (sys : System) (tables : Tables) (s : Tree) (rules : List ℕ) (o : Option Tree) : Type 0 where
+  pub only : (t : Tree) → Ends (IsRun (StepsBy sys tables) s) s rules t → o ≡ Some t
+  pub there : (t : Tree) → o ≡ Some t → Ends (IsRun (StepsBy sys tables) s) s rules t

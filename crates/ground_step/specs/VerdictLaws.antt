@@ -4,7 +4,7 @@ use Rattle.sort_term.specs.declared.points.Point.{Point}
 use Rattle.sort_term.specs.declared.problem.Problem.{Problem}
 use Rattle.sort_term.specs.Relation.{Side, left, right, IsPoint, RightMisses, RightFails, LeftFails}
 use Rattle.sort_term.specs.Simulation.{Test, HasTest, IsUngrounded, IsGrounded, IsCutSimulation, SideMisses}
-use Rattle.sort_term.specs.Verdict.{ungrounded, unmatched, refines, rank, FirstMiss, AtPoint, NoneBefore, IsVerdict}
+use Rattle.sort_term.specs.Verdict.{ungrounded, unmatched, refines, rank, AtPoint, NoneBefore, IsVerdict}
 use Rattle.ground_step.specs.declared.verdict.Failure.{Failure}
 use Rattle.ground_step.specs.declared.verdict.Verdict.{Verdict}
 use Rattle.ground_step.specs.Shows.{Witness, Shows, IsRight, kind_of_verdict}

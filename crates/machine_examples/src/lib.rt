@@ -10,7 +10,7 @@ mod verdicts;
 
 use example_cases::{Failed, Texts};
 pub use loaded::{
-    Machine, loaded_left_cuts, loaded_machine, loaded_program, loaded_semantics,
+    Machine, loaded_left_cuts, loaded_machine, loaded_problem, loaded_program, loaded_semantics,
     problem_without_rows,
 };
 pub use running::step_count;

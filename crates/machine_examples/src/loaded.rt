@@ -173,7 +173,7 @@ pub fn loaded_left_cuts(
 }
 
 /// The problem that a left and a right semantics, their programs and points are.
-pub(crate) fn loaded_problem(
+pub fn loaded_problem(
     alloc: Global,
     texts: &Texts,
     left: &Form,

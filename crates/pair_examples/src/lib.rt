@@ -22,6 +22,7 @@ mod unmatched;
 use example_cases::{Failed, Texts};
 use sexp_text::Form;
 use std::alloc::Global;
+pub use undefined::with_undefined;
 
 /// What the call with this name answers; None where there is no such call.
 pub fn answer(

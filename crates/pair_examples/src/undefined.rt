@@ -9,11 +9,7 @@ use sqlite_items::Items;
 use std::alloc::Global;
 
 /// The problem, of whose left cut the items at these places stand for undefined states. The places rise.
-pub(crate) fn with_undefined(
-    alloc: Global,
-    problem: Problem,
-    forms: &[Form],
-) -> Result<Problem, Failed> {
+pub fn with_undefined(alloc: Global, problem: Problem, forms: &[Form]) -> Result<Problem, Failed> {
     match rising_places(alloc, forms, problem.points.left_cuts.len()) {
         Ok(undefs) => Ok(replaced(problem, undefs)),
         Err(failed) => {

@@ -1,0 +1,4 @@
+pub mod Posed
+pub mod Questions
+pub mod Lists
+pub mod QuestionLaws

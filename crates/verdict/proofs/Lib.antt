@@ -1,0 +1,12 @@
+pub mod Failures
+pub mod Witnesses
+pub mod Kept
+pub mod Found
+pub mod FirstTests
+pub mod Sides
+pub mod Turns
+pub mod Runs
+pub mod Leaves
+pub mod Inside
+pub mod Entering
+pub mod Standings
